@@ -1,92 +1,254 @@
-//! What operators answer, a line each: in each way in which a body is run.
+//! What operators answer, a line each, in each way in which a body is run. Want of memory is no answer: it ends a run, once
+//! what it leaves was looked at.
 
 ghost use Rattle.std.specs.Prelude.{◌≡◌, ◌≢◌, [], None};
 ghost use Rattle.validate_stacks.specs.State.{IsStarting, IsValidBody};
 ghost use Rattle.validate_stacks.specs.Visits.{MayVisit};
 ghost use Rattle.wasmparser_validate.specs.Start.{state, stacks_of};
 
-use crate::visits::visit;
-use std::alloc::{AllocError, Global};
+use crate::expectations::{expect, expect_same};
+use crate::snapshot::{Seen, Snapshot, add_seen, has_rising_heights};
+use crate::visits::{Call, visit_by};
+use std::alloc::AllocError;
+use std::process::Abort;
 use wasmparser_validate::func::FuncValidator;
 use wasmparser_validate::operators::{OperatorValidator, check_ops, try_and_undo, try_op};
 use wasmparser_validate::resources::WasmModuleResources;
 use wasmparser_validate::types::Error;
 use wasmparser_validate::visit::{Op, all_have_module_immediates, is_well_ordered};
 
-/// Adds the line of an answer: how many operands and frames there are behind it, or the words of the refusal. Want of
-/// memory is no answer.
-fn add_answer(
+/// The offset of each operator that is visited by itself.
+const OFFSET: u64 = 7;
+
+/// How an operator of a body is run.
+#[derive(Clone, Copy)]
+pub enum Step {
+    /// It is visited.
+    Visit(Call),
+    /// It is attempted, and kept where it is accepted.
+    Attempt,
+    /// The same by one call, behind an attempt that is taken back.
+    Try,
+}
+
+/// Adds the words of a refusal, unless memory was wanting.
+fn add_refusal(text: &mut String, refusal: &Error) -> Result<(), AllocError> {
+    if refusal.is_out_of_memory() {
+        return Err(AllocError);
+    }
+    text.push_str(refusal.message())
+}
+
+/// Adds the line of an answer, with what it left.
+pub fn add_answer<S: Seen>(
     text: &mut String,
-    answer: Result<(), Error>,
-    (operands, frames): (usize, usize),
+    answer: &Result<(), Error>,
+    seen: &S,
+) -> Result<(), AllocError> {
+    if let Err(refusal) = answer {
+        add_refusal(text, refusal)?;
+        text.push_str("; ")?;
+    }
+    add_seen(text, seen)?;
+    text.push_str("\n")
+}
+
+/// Adds the line of an answer, of a refusal no more than its words.
+fn add_tried<S: Seen>(
+    text: &mut String,
+    answer: &Result<(), Error>,
+    seen: &S,
 ) -> Result<(), AllocError> {
     match answer {
-        Ok(()) => writeln!(text, "{operands} {frames}"),
-        Err(refusal) if refusal.is_out_of_memory() => Err(AllocError),
-        Err(refusal) => writeln!(text, "{}", refusal.message()),
+        Ok(()) => add_answer(text, answer, seen),
+        Err(refusal) => {
+            add_refusal(text, refusal)?;
+            text.push_str("\n")
+        }
     }
 }
 
-/// One visit, or an attempt that is taken back and then, unless that found no memory, one that may stay.
-fn answer_of<R: WasmModuleResources>(
+/// Attempts an operator, and takes it back: then all is as it was before. Adds what was there within the attempt, and
+/// behind it.
+fn add_undone<R: WasmModuleResources>(
+    rt: &(impl Abort + AllocGlobal),
+    text: &mut String,
     v: &mut OperatorValidator,
     lists: &R,
     op: Op<'_>,
-    is_attempted: bool,
-) -> Result<(), Error>
+) -> Result<(), AllocError>
+    requires idle { (state v.old).undone ≡ None }
+    requires visit { MayVisit (R.context lists.now) (stacks_of v.old) }
+    ensures same { state v.new ≡ state v.old }
+{
+    let before = Snapshot::of(rt.alloc(), v)?;
+    v.begin_try_op();
+    expect(rt, v.is_pending() && v.can_attempt());
+    let answer = v.check(lists, OFFSET, op);
+    let added = add_answer(text, &answer, v);
+    v.rollback();
+    expect(rt, before.is_of(v) && !v.is_pending());
+    added?;
+    add_answer(text, &Ok(()), v)
+}
+
+/// Attempts an operator, and keeps it where it is accepted; else all is as it was before.
+fn add_attempted<R: WasmModuleResources>(
+    rt: &(impl Abort + AllocGlobal),
+    text: &mut String,
+    v: &mut OperatorValidator,
+    lists: &R,
+    op: Op<'_>,
+) -> Result<(), AllocError>
     requires idle { (state v.old).undone ≡ None }
     requires visit { MayVisit (R.context lists.now) (stacks_of v.old) }
     ensures idle { (state v.new).undone ≡ None }
     ensures valid { IsValidBody (R.context lists.now) (state v.new) }
 {
-    if !is_attempted {
-        return visit(v, lists, op);
+    let before = Snapshot::of(rt.alloc(), v)?;
+    v.begin_try_op();
+    let answer = v.check(lists, OFFSET, op);
+    let added = add_answer(text, &answer, v);
+    if answer.is_ok() {
+        v.commit();
+    } else {
+        v.rollback();
+        expect(rt, before.is_of(v));
     }
-    match try_and_undo(v, lists, 7, op) {
-        Err(refusal) if refusal.is_out_of_memory() => Err(refusal),
-        _ => try_op(v, lists, 7, op),
-    }
+    expect(rt, !v.is_pending());
+    added
 }
 
-/// Adds what the operators answer one by one, each visited or each attempted.
-pub fn add_each<R: WasmModuleResources>(
+/// Attempts an operator twice by one call: it is taken back, and then kept where it is accepted. Else all is as it was
+/// before.
+fn add_tries<R: WasmModuleResources>(
+    rt: &(impl Abort + AllocGlobal),
     text: &mut String,
     v: &mut OperatorValidator,
     lists: &R,
-    ops: &[(Op<'_>, u64)],
-    are_attempted: bool,
+    op: Op<'_>,
+) -> Result<(), AllocError>
+    requires idle { (state v.old).undone ≡ None }
+    requires visit { MayVisit (R.context lists.now) (stacks_of v.old) }
+    ensures idle { (state v.new).undone ≡ None }
+    ensures valid { IsValidBody (R.context lists.now) (state v.new) }
+{
+    let before = Snapshot::of(rt.alloc(), v)?;
+    let undone = try_and_undo(v, lists, OFFSET, op);
+    expect(rt, before.is_of(v));
+    if undone.as_ref().is_err_and(Error::is_out_of_memory) {
+        return Err(AllocError);
+    }
+    let answer = try_op(v, lists, OFFSET, op);
+    expect(rt, answer.is_ok() || before.is_of(v));
+    let added = add_tried(text, &answer, v);
+    expect(rt, added.is_err() || answer.is_ok() == undone.is_ok());
+    added
+}
+
+/// Visits an operator.
+fn add_visited<R: WasmModuleResources>(
+    rt: &impl Abort,
+    text: &mut String,
+    v: &mut OperatorValidator,
+    lists: &R,
+    op: Op<'_>,
+    call: Call,
+) -> Result<(), AllocError>
+    requires idle { (state v.old).undone ≡ None }
+    requires visit { MayVisit (R.context lists.now) (stacks_of v.old) }
+    ensures idle { (state v.new).undone ≡ None }
+    ensures valid { IsValidBody (R.context lists.now) (state v.new) }
+{
+    let answer = visit_by(v, lists, op, call);
+    expect(rt, has_rising_heights(v));
+    add_answer(text, &answer, v)
+}
+
+/// Adds what an operator answers that is run so, or is attempted and taken back.
+fn add_step<R: WasmModuleResources>(
+    rt: &(impl Abort + AllocGlobal),
+    text: &mut String,
+    v: &mut OperatorValidator,
+    lists: &R,
+    op: Op<'_>,
+    is_undone: bool,
+    step: Step,
+) -> Result<(), AllocError>
+    requires idle { (state v.old).undone ≡ None }
+    requires visit { MayVisit (R.context lists.now) (stacks_of v.old) }
+    ensures idle { (state v.new).undone ≡ None }
+    ensures valid { IsValidBody (R.context lists.now) (state v.new) }
+{
+    if is_undone {
+        return add_undone(rt, text, v, lists, op);
+    }
+    match step {
+        Step::Visit(call) => add_visited(rt, text, v, lists, op, call),
+        Step::Attempt => add_attempted(rt, text, v, lists, op),
+        Step::Try => add_tries(rt, text, v, lists, op),
+    }
+}
+
+/// Adds what the operators of these lines answer, one by one, up to the end of the body. One whose line begins with `try`
+/// is attempted and taken back.
+pub fn add_each<R: WasmModuleResources>(
+    rt: &(impl Abort + AllocGlobal),
+    text: &mut String,
+    v: &mut OperatorValidator,
+    lists: &R,
+    body: (&str, &[(Op<'_>, u64)]),
+    step: Step,
 ) -> Result<(), AllocError>
     requires { IsStarting (R.context lists.now) (state v.old) }
 {
+    let (mut left, ops) = body;
     for pair in ops {
         if v.control_stack_height() == 0 {
             return Ok(());
         }
-        let answer = answer_of(v, lists, pair.0, are_attempted);
-        let heights = (v.operand_stack_height(), v.control_stack_height());
-        add_answer(text, answer, heights)?;
+        let (line, behind) = left.split_once('\n').unwrap_or((left, ""));
+        left = behind;
+        let is_undone = line.starts_with("try ");
+        add_step(rt, text, v, lists, pair.0, is_undone, step)?;
     }
     Ok(())
 }
 
-/// Adds what the check of a list answered.
-fn add_checked(
+/// Adds the line of each operator that was accepted.
+fn add_heights(text: &mut String, heights: &[(usize, usize)]) -> Result<(), AllocError> {
+    for (operands, frames) in heights {
+        writeln!(text, "{operands} {frames}")?;
+    }
+    Ok(())
+}
+
+/// Adds what the check of a list answered. Of the operators before a refused one, or one for which there was no memory,
+/// all are accepted.
+fn add_checked<S: Seen>(
+    rt: &impl Abort,
     text: &mut String,
     heights: &[(usize, usize)],
     answer: Result<bool, (usize, Error)>,
+    seen: &S,
 ) -> Result<(), AllocError> {
-    for pair in heights {
-        add_answer(text, Ok(()), *pair)?;
-    }
+    add_heights(text, heights)?;
     match answer {
-        Ok(_) => Ok(()),
-        Err((_, refusal)) => add_answer(text, Err(refusal), (0, 0)),
+        Ok(is_closed) => {
+            let (_, frames) = seen.heights();
+            expect_same(rt, is_closed, frames == 0);
+            Ok(())
+        }
+        Err((place, refusal)) => {
+            expect_same(rt, place, heights.len());
+            add_answer(text, &Err(refusal), seen)
+        }
     }
 }
 
 /// Adds what the operators answer as one list.
 pub fn add_list<R: WasmModuleResources>(
-    alloc: Global,
+    rt: &(impl Abort + AllocGlobal),
     text: &mut String,
     v: &mut OperatorValidator,
     lists: &R,
@@ -97,31 +259,52 @@ pub fn add_list<R: WasmModuleResources>(
     if !is_well_ordered(ops) || !all_have_module_immediates(ops) {
         return Ok(());
     }
-    let mut heights = Vec::new(alloc);
+    let mut heights = Vec::new(rt.alloc());
     let answer = check_ops(v, ops, lists, &mut heights);
-    add_checked(text, &heights, answer)
+    expect(rt, has_rising_heights(v));
+    add_checked(rt, text, &heights, answer, v)
 }
 
-/// One visit, or an attempt, which comes again where it is refused.
-fn answer_in<'a, R: WasmModuleResources>(
+/// Visits an operator of a function. It is accepted, or the function has failed.
+fn add_op<'a, R: WasmModuleResources>(
+    rt: &impl Abort,
+    text: &mut String,
     function: &mut FuncValidator<'a, '_, R>,
-    offset: u64,
-    op: Op<'a>,
-    is_attempted: bool,
-) -> Result<(), Error>
+    pair: (Op<'a>, u64),
+) -> Result<(), AllocError>
     requires { function.old.present.frames ≢ [] }
 {
-    if !is_attempted {
-        return function.op(offset, op);
-    }
-    match function.try_op(offset, op) {
-        Ok(()) => Ok(()),
-        Err(_) => function.try_op(offset, op),
-    }
+    let (op, offset) = pair;
+    let count = function.accepted().len();
+    let answer = function.op(offset, op);
+    expect(rt, function.is_failed() == answer.is_err());
+    expect(rt, (function.accepted().len() == count) == answer.is_err());
+    expect(rt, has_rising_heights(function));
+    add_answer(text, &answer, function)
+}
+
+/// Attempts an operator of a function. It is accepted, or all is as it was before.
+fn add_try_op<'a, R: WasmModuleResources>(
+    rt: &(impl Abort + AllocGlobal),
+    text: &mut String,
+    function: &mut FuncValidator<'a, '_, R>,
+    pair: (Op<'a>, u64),
+) -> Result<(), AllocError>
+    requires { function.old.present.frames ≢ [] }
+{
+    let before = Snapshot::of(rt.alloc(), function)?;
+    let (op, offset) = pair;
+    let count = function.accepted().len();
+    let answer = function.try_op(offset, op);
+    expect(rt, !function.is_failed());
+    expect(rt, (function.accepted().len() == count) == answer.is_err());
+    expect(rt, answer.is_ok() || before.is_of(function));
+    add_tried(text, &answer, function)
 }
 
 /// Adds what the operators answer in a function, each visited or each attempted.
 pub fn add_each_in<'a, R: WasmModuleResources>(
+    rt: &(impl Abort + AllocGlobal),
     text: &mut String,
     function: &mut FuncValidator<'a, '_, R>,
     ops: &[(Op<'a>, u64)],
@@ -131,13 +314,11 @@ pub fn add_each_in<'a, R: WasmModuleResources>(
         if function.control_stack_height() == 0 {
             return Ok(());
         }
-        let (op, offset) = *pair;
-        let answer = answer_in(function, offset, op, are_attempted);
-        let heights = (
-            function.operand_stack_height(),
-            function.control_stack_height(),
-        );
-        add_answer(text, answer, heights)?;
+        if are_attempted {
+            add_try_op(rt, text, function, *pair)?;
+        } else {
+            add_op(rt, text, function, *pair)?;
+        }
     }
     Ok(())
 }

@@ -1,89 +1,178 @@
-//! Runs of pops of i32: how many pops they try, and what they answer.
+//! Runs of pops of i32: how many pops they try, what they answer, and how many operands they leave; and the same in an
+//! attempt that is taken back.
 
-ghost use Rattle.std.specs.Prelude.{◌≡◌, ◌+◌, ◌^◌, ◌<◌, OnOk};
+ghost use Rattle.std.specs.Prelude.{◌≡◌, ◌+◌, ◌^◌, ◌<◌, None, IsSome, OnOk};
 ghost use Rattle.validate_stacks.specs.Counted.{pops_of_run};
+ghost use Rattle.validate_stacks.specs.Pops.{IsKept};
+ghost use Rattle.validate_stacks.specs.State.{IsStarting};
 ghost use Rattle.validate_stacks.specs.Visits.{MayVisit};
 ghost use Rattle.wasmparser_validate.specs.Start.{state, stacks_of};
-ghost use Rattle.wasmparser_validate.specs.State.{IsStarting};
 
-use crate::expectations::{expect_same, expect_text};
-use crate::visits::{I32_CONST, NOP, UNREACHABLE, begun, one_memory, visit_well};
+use crate::expectations::{ample, expect, expect_error, expect_same};
+use crate::snapshot::Snapshot;
+use crate::visits::{BLOCK, I32_CONST, UNREACHABLE, begun_in, one_memory, visit_each};
+use std::alloc::AllocError;
+use std::mem;
 use std::process::Abort;
-use wasmparser_validate::operators::{OperatorValidator, Pops};
+use wasmparser_validate::operators::{
+    OperatorValidator, OperatorValidatorAllocations, Pops, WasmProposalValidator,
+};
 use wasmparser_validate::resources::WasmModuleResources;
 use wasmparser_validate::types::{Error, ValType};
 use wasmparser_validate::visit::Op;
 
-/// Two operators, how many operands are popped behind them, how many pops are tried, and the words of the refusal, none
-/// where it isn't refused.
-type Row = (Op<'static>, Op<'static>, u32, u64, &'static str);
+const NOTHING: &str = "type mismatch: expected i32 but nothing on stack";
 
-const ROWS: &[Row] = &[
-    // In dead code a pop below the own operands is the last.
-    (UNREACHABLE, I32_CONST, 10, 2, ""),
-    (UNREACHABLE, I32_CONST, 1, 1, ""),
-    (UNREACHABLE, NOP, u32::MAX, 1, ""),
-    (I32_CONST, I32_CONST, 1, 1, ""),
-    (I32_CONST, I32_CONST, 0, 0, ""),
+/// A run of pops.
+struct Run {
+    /// The operators before it.
+    before: &'static [Op<'static>],
+    /// How many operands are popped.
+    count: u32,
+    /// How many operands are left, or None where the run is refused.
+    left: Option<usize>,
+    /// How many pops are tried.
+    tried: u64,
+}
+
+const RUNS: &[Run] = &[
+    // In dead code the first pop below the own operands is the last.
+    Run {
+        before: &[UNREACHABLE, I32_CONST, I32_CONST],
+        count: 10,
+        left: Some(0),
+        tried: 3,
+    },
+    Run {
+        before: &[UNREACHABLE, I32_CONST, I32_CONST],
+        count: 2,
+        left: Some(0),
+        tried: 2,
+    },
+    Run {
+        before: &[UNREACHABLE],
+        count: 4_294_967_295,
+        left: Some(0),
+        tried: 1,
+    },
+    Run {
+        before: &[I32_CONST, I32_CONST, I32_CONST, I32_CONST, I32_CONST],
+        count: 3,
+        left: Some(2),
+        tried: 3,
+    },
     // A pop that is refused is counted too.
-    (
-        I32_CONST,
-        I32_CONST,
-        3,
-        3,
-        "type mismatch: expected i32 but nothing on stack",
-    ),
+    Run {
+        before: &[I32_CONST, I32_CONST],
+        count: 3,
+        left: None,
+        tried: 3,
+    },
+    Run {
+        before: &[I32_CONST, I32_CONST],
+        count: 0,
+        left: Some(2),
+        tried: 0,
+    },
+    // The operands of outer frames aren't its own.
+    Run {
+        before: &[I32_CONST, BLOCK],
+        count: 1,
+        left: None,
+        tried: 1,
+    },
 ];
 
 /// Pops so many operands of i32.
 fn pop_run<R: WasmModuleResources>(
     v: &mut OperatorValidator,
     lists: &R,
-    n: u32,
+    count: u32,
     pops: &mut Pops,
 ) -> Result<(), Error>
     requires visit { MayVisit (R.context lists.now) (stacks_of v.old) }
-    requires countable { pops.old + n < 2 ^ 64 }
-    ensures { OnOk result (pops.new ≡ pops.old + pops_of_run n (state v.old)) }
+    requires countable { pops.old + count < 2 ^ 64 }
+    ensures counted { OnOk result (pops.new ≡ pops.old + pops_of_run count (state v.old)) }
+    ensures kept { IsKept (state v.old) (state v.new) }
 {
-    v.with_resources(lists, 7).pop_run(ValType::I32, n, pops)
+    let mut visitor: WasmProposalValidator<'_, '_, R> = v.with_resources(lists, 7);
+    visitor.pop_run(ValType::I32, count, pops)
 }
 
-/// What a run of pops comes to behind two operators.
-fn expect_row<R: WasmModuleResources>(
+/// What a run comes to, unless memory is wanting.
+fn expect_run<R: WasmModuleResources>(
     rt: &impl Abort,
     v: &mut OperatorValidator,
     lists: &R,
-    row: &Row,
-)
-    requires { IsStarting (R.context lists.now) (state v.old) }
+    run: &Run,
+) -> Result<(), AllocError>
+    requires { MayVisit (R.context lists.now) (stacks_of v.old) }
+    ensures kept { IsKept (state v.old) (state v.new) }
 {
-    let (first, second, n, tried, text) = *row;
-    visit_well(rt, v, lists, first);
-    visit_well(rt, v, lists, second);
     let mut pops = Pops::new();
-    let answer = pop_run(v, lists, n, &mut pops);
-    expect_same(rt, pops.count(), tried);
-    match &answer {
-        Ok(()) => expect_text(rt, "", text, text),
-        Err(refusal) => expect_text(rt, refusal.message(), text, text),
+    let answer = pop_run(v, lists, run.count, &mut pops);
+    match run.left {
+        Some(left) => {
+            ample(rt, answer)?;
+            expect_same(rt, v.operand_stack_height(), left);
+        }
+        None => expect_error(rt, answer, NOTHING, 7)?,
     }
+    expect_same(rt, pops.count(), run.tried);
+    Ok(())
 }
 
-/// Each row in a new body.
-fn expect_rows<R: WasmModuleResources>(
+/// The same in an attempt, which is taken back: then all is as it was before.
+fn expect_undone<R: WasmModuleResources>(
     rt: &(impl Abort + AllocGlobal),
+    v: &mut OperatorValidator,
     lists: &R,
-) -> Result<(), Error> {
-    for row in ROWS {
-        let mut v = begun(rt.alloc(), lists)?;
-        expect_row(rt, &mut v, lists, row);
+    run: &Run,
+) -> Result<(), AllocError>
+    requires idle { (state v.old).undone ≡ None }
+    requires visit { MayVisit (R.context lists.now) (stacks_of v.old) }
+    ensures same { state v.new ≡ state v.old }
+{
+    let before = Snapshot::of(rt.alloc(), v)?;
+    v.begin_try_op();
+    let answer = expect_run(rt, v, lists, run);
+    v.rollback();
+    expect(rt, before.is_of(v));
+    answer
+}
+
+/// A run behind its operators: in an attempt that is taken back, and then for good.
+fn expect_both<R: WasmModuleResources>(
+    rt: &(impl Abort + AllocGlobal),
+    v: &mut OperatorValidator,
+    lists: &R,
+    run: &Run,
+) -> Result<(), AllocError>
+    requires { IsStarting (R.context lists.now) (state v.old) }
+{
+    visit_each(rt, v, lists, run.before)?;
+    expect_undone(rt, v, lists, run)?;
+    expect_run(rt, v, lists, run)
+}
+
+/// Each run in a new body, in the buffers of the one before it.
+pub fn expect_runs(
+    rt: &(impl Abort + AllocGlobal),
+    used: &mut OperatorValidatorAllocations,
+) -> Result<(), AllocError> {
+    let lists = ample(rt, one_memory(rt.alloc()))?;
+    for run in RUNS {
+        let allocs = mem::replace(used, OperatorValidatorAllocations::new(rt.alloc()));
+        let mut v = ample(rt, begun_in(&lists, allocs))?;
+        let answer = expect_both(rt, &mut v, &lists, run);
+        *used = v.into_allocations();
+        answer?;
     }
     Ok(())
 }
 
 #[test]
-fn runs_of_pops(rt: HostRuntime) -> Result<(), Error> {
-    let lists = one_memory(rt.alloc())?;
-    expect_rows(&rt, &lists)
+fn runs_of_pops(rt: HostRuntime) -> Result<(), AllocError> {
+    let mut used = OperatorValidatorAllocations::new(rt.alloc());
+    expect_runs(&rt, &mut used)
 }

@@ -1,11 +1,96 @@
-//! The log of an attempt: a change by a closure is that of the closure.
+//! The log of an attempt: each record succeeds where there is memory, and a change by a closure is that of the closure.
 
 ghost use Rattle.std.specs.Prelude.{◌≡◌, MatchResult};
 ghost use Rattle.validate_transaction.specs.Recorded.{with_push};
 
-use crate::expectations::expect;
-use wasmparser_validate::transaction::{RollbackLogAllocations, Transaction};
-use wasmparser_validate::types::OutOfMemory;
+use crate::expectations::{expect, expect_same};
+use std::process::Abort;
+use wasmparser_validate::operators::Frame;
+use wasmparser_validate::transaction::{
+    Closed, Entry, Pile, RollbackLog, RollbackLogAllocations, Transaction, take_back,
+};
+use wasmparser_validate::types::{MaybeType, NotDone, OutOfMemory, ValType};
+use wasmparser_validate::visit::{BlockType, FrameKind};
+
+/// The frame of a block that takes nothing and gives nothing.
+const BLOCK: Frame = Frame {
+    kind: FrameKind::Block,
+    block_type: BlockType::Empty,
+    height: 0,
+    unreachable: false,
+    init_height: 0,
+};
+
+const I32: MaybeType = MaybeType::Known(ValType::I32);
+
+/// An operand is popped, the frame is closed and opened anew, and two operands are pushed.
+const ENTRY: Entry<'static> = Entry {
+    popped: &[I32],
+    closed: Some(Closed {
+        frame: &BLOCK,
+        unset: &[1, 0],
+    }),
+    opened: true,
+    pushed: 2,
+};
+
+/// Records one of each, and all at once. There is something to undo behind each.
+fn record_each(rt: &impl Abort, log: &mut RollbackLog) -> Result<(), OutOfMemory> {
+    log.record_push()?;
+    log.record_pop(&I32)?;
+    expect_same(rt, log.operands.len(), 2);
+    expect_same(rt, log.operands.get(0), Some(&Some(I32)));
+    log.push_ctrl()?;
+    log.pop_ctrl(&BLOCK, &[1, 0])?;
+    expect_same(rt, log.frames.get(0), Some(&Some(BLOCK)));
+    expect_same(rt, log.inits.as_slice(), [1, 0].as_slice());
+    let recorded: Result<(), NotDone> = log.record(ENTRY);
+    expect(rt, recorded.is_err() || log.operands.len() == 5);
+    log.set_unreachable();
+    expect(rt, log.unreachable && log.has_changes(0));
+    Ok(())
+}
+
+#[test]
+fn a_log_records_each_change(rt: HostRuntime) -> Result<(), OutOfMemory> {
+    let mut log = RollbackLog::new(0, RollbackLogAllocations::new(rt.alloc()));
+    expect(&rt, !log.has_changes(0) && log.has_changes(1));
+    record_each(&rt, &mut log)?;
+    let mut allocs = log.into_allocations();
+    let log = RollbackLog::new(0, allocs.take());
+    let other = RollbackLog::new(1, RollbackLogAllocations::new(log.allocator()));
+    expect(&rt, !log.has_changes(0) && !other.has_changes(1));
+    Ok(())
+}
+
+/// The same through an attempt that is pending.
+fn record_pending(pending: &mut Transaction) -> Result<(), OutOfMemory> {
+    pending.record_push()?;
+    pending.record_pop(&I32)?;
+    pending.push_ctrl()?;
+    pending.pop_ctrl(&BLOCK, &[1, 0])
+}
+
+#[test]
+fn an_attempt_records_each_change(rt: HostRuntime) -> Result<(), OutOfMemory> {
+    let mut attempt = Transaction::new(RollbackLogAllocations::new(rt.alloc()));
+    attempt.begin(0);
+    record_pending(&mut attempt)?;
+    let recorded: Result<(), NotDone> = attempt.record(ENTRY);
+    expect(&rt, attempt.has_changes(0));
+    let log = attempt.take();
+    expect(&rt, !attempt.is_active());
+    let count = if recorded.is_ok() { 5 } else { 2 };
+    expect_same(&rt, log.operands.len(), count);
+    attempt.keep(log);
+    attempt.begin(0);
+    attempt.set_unreachable();
+    expect(&rt, attempt.has_changes(0));
+    attempt.end();
+    expect(&rt, !attempt.is_active() && !attempt.has_changes(0));
+    attempt.into_allocations();
+    Ok(())
+}
 
 /// Records that an operand was pushed, by a closure over the log.
 fn push_by_closure(attempt: &mut Transaction) -> Result<(), OutOfMemory>
@@ -17,11 +102,55 @@ fn push_by_closure(attempt: &mut Transaction) -> Result<(), OutOfMemory>
 
 /// The closure is called on the log of a pending attempt; where none is pending nothing changes.
 #[test]
-fn a_change_of_the_log(rt: HostRuntime) {
+fn a_change_of_the_log(rt: HostRuntime) -> Result<(), OutOfMemory> {
     let mut attempt = Transaction::new(RollbackLogAllocations::new(rt.alloc()));
-    let is_called = push_by_closure(&mut attempt).is_ok();
-    expect(&rt, is_called && !attempt.has_changes(0));
+    push_by_closure(&mut attempt)?;
+    expect(&rt, !attempt.is_active() && !attempt.has_changes(0));
     attempt.begin(0);
-    let is_called = push_by_closure(&mut attempt).is_ok();
-    expect(&rt, is_called && attempt.has_changes(0));
+    push_by_closure(&mut attempt)?;
+    expect(&rt, attempt.is_active() && attempt.has_changes(0));
+    Ok(())
+}
+
+/// Adds these numbers to a pile.
+fn put_each(pile: &mut Pile<u32>, numbers: &[u32]) -> Result<(), OutOfMemory> {
+    for number in numbers {
+        pile.take_room()?;
+        pile.put(*number);
+    }
+    Ok(())
+}
+
+#[test]
+fn a_pile_grows_and_shrinks_at_its_end(rt: HostRuntime) -> Result<(), OutOfMemory> {
+    let mut pile = Pile::new(rt.alloc());
+    expect(&rt, pile.is_empty() && !pile.has_room());
+    put_each(&mut pile, &[4, 5, 6])?;
+    expect_same(&rt, pile.get(0), Some(&6));
+    expect(&rt, pile.len() == 3);
+    expect_same(&rt, pile.newest(2), [5, 6].as_slice());
+    pile.replace_top(7);
+    expect_same(&rt, pile.pop(), Some(7));
+    expect(&rt, pile.has_room());
+    pile.truncate(1);
+    expect_same(&rt, pile.get(0), Some(&4));
+    pile.clear();
+    expect(&rt, pile.is_empty());
+    let reserved: Result<(), NotDone> = pile.reserve(1);
+    expect_same(&rt, reserved, Ok(()));
+    Ok(())
+}
+
+/// A push is undone, and what was popped is there again.
+#[test]
+fn a_trace_is_taken_back(rt: HostRuntime) -> Result<(), OutOfMemory> {
+    let mut pile = Pile::new(rt.alloc());
+    put_each(&mut pile, &[4, 5])?;
+    let mut trace = Pile::new(rt.alloc());
+    trace.take_room()?;
+    trace.put(None);
+    take_back(&mut pile, &mut trace);
+    expect_same(&rt, pile.get(0), Some(&4));
+    expect(&rt, pile.len() == 1 && trace.is_empty());
+    Ok(())
 }

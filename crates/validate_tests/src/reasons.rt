@@ -5,12 +5,13 @@
 ghost use Rattle.wasmparser_validate.specs.Start.{state};
 ghost use Rattle.wasmparser_validate.specs.State.{IsStarting};
 
-use crate::expectations::expect_refused;
+use crate::expectations::{ample, expect_refused};
 use crate::visits::{I32_CONST, NOP, UNREACHABLE, begun, one_memory, visit, visit_well};
+use std::alloc::AllocError;
 use std::process::Abort;
 use wasmparser_validate::operators::OperatorValidator;
 use wasmparser_validate::resources::WasmModuleResources;
-use wasmparser_validate::types::{Error, Gate, HeapType, Refusal, UnpackedIndex, ValType};
+use wasmparser_validate::types::{Gate, HeapType, Refusal, UnpackedIndex, ValType};
 use wasmparser_validate::visit::{
     AtomicOp, BrTable, ControlOp, IntegerType, MemArg, MemArgTarget, MemoryOp, NumberType,
     NumericOp, Op, ReferenceOp,
@@ -110,28 +111,28 @@ fn expect_row<R: WasmModuleResources>(
     v: &mut OperatorValidator,
     lists: &R,
     row: &Row,
-)
+) -> Result<(), AllocError>
     requires { IsStarting (R.context lists.now) (state v.old) }
 {
     let (first, second, reason, text) = *row;
-    visit_well(rt, v, lists, first);
-    expect_refused(rt, visit(v, lists, second), reason, text);
+    ample(rt, visit_well(rt, v, lists, first))?;
+    expect_refused(rt, visit(v, lists, second), reason, text)
 }
 
 /// Each row in a new body.
 fn expect_rows<R: WasmModuleResources>(
     rt: &(impl Abort + AllocGlobal),
     lists: &R,
-) -> Result<(), Error> {
+) -> Result<(), AllocError> {
     for row in ROWS {
-        let mut v = begun(rt.alloc(), lists)?;
-        expect_row(rt, &mut v, lists, row);
+        let mut v = ample(rt, begun(rt.alloc(), lists))?;
+        expect_row(rt, &mut v, lists, row)?;
     }
     Ok(())
 }
 
 #[test]
-fn reasons_of_refusals(rt: HostRuntime) -> Result<(), Error> {
-    let lists = one_memory(rt.alloc())?;
+fn reasons_of_refusals(rt: HostRuntime) -> Result<(), AllocError> {
+    let lists = ample(&rt, one_memory(rt.alloc()))?;
     expect_rows(&rt, &lists)
 }

@@ -1,12 +1,11 @@
 //! Modules that are refused, in which words, and which of two refusals comes first: a script says no more
 //! than that its module is none.
 
-use crate::expectations::expect_text;
-use script_reader::{Script, read_script};
+use crate::expectations::{ample, expect_error};
+use crate::modules::declared;
 use std::alloc::AllocError;
 use std::process::Abort;
 use wasmparser_validate::resources::ModuleLists;
-use wasmparser_validate::types::Error;
 
 /// Lines of a module, and the words in which it is refused, or that it is kept.
 const MODULES: &[(&str, &str)] = &[
@@ -60,31 +59,20 @@ const MODULES: &[(&str, &str)] = &[
 ];
 
 /// What is said of a module of these lines.
-fn expect_said(rt: &impl Abort, answer: Result<ModuleLists, Error>, said: &str, lines: &str) {
-    match &answer {
-        Ok(_) => expect_text(rt, "kept", said, lines),
-        Err(refusal) => expect_text(rt, refusal.message(), said, lines),
+fn expect_said(rt: &(impl Abort + AllocGlobal), lines: &str, said: &str) -> Result<(), AllocError> {
+    let declarations = declared(rt, lines)?;
+    let answer = ModuleLists::from_declarations(rt.alloc(), declarations);
+    if said == "kept" {
+        ample(rt, answer)?;
+        return Ok(());
     }
-}
-
-/// The same, of the lines of a row.
-fn expect_row(rt: &(impl Abort + AllocGlobal), lines: &str, said: &str) -> Result<(), AllocError> {
-    let text = format!(in rt.alloc(); "{lines}\nexpr i32\n")?;
-    let mut listed = Vec::new(rt.alloc());
-    match read_script(rt.alloc(), &mut listed, &text) {
-        Ok(Script { declarations, .. }) => {
-            let answer = ModuleLists::from_declarations(rt.alloc(), declarations);
-            expect_said(rt, answer, said, lines);
-            Ok(())
-        }
-        Err(_) => Err(AllocError),
-    }
+    expect_error(rt, answer, said, 0)
 }
 
 #[test]
 fn refused_modules(rt: HostRuntime) -> Result<(), AllocError> {
     for (lines, said) in MODULES {
-        expect_row(&rt, lines, said)?;
+        expect_said(&rt, lines, said)?;
     }
     Ok(())
 }

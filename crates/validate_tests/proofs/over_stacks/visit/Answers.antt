@@ -1,0 +1,8 @@
+use Rattle.validate_body.proofs.Listed.{visit_valid, visit_kept}
+use Rattle.validate_tests.proofs.over_stacks.visit.Goals as goal
+
+pub returns-clause-valid : goal.returns-clause-valid
+returns-clause-valid g c = visit_valid _ _ _ c.args.stacks.now.body c.visit_by_row.new.stacks.body _ c.visit_by_row.ensures
+
+pub returns-clause-kept : goal.returns-clause-kept
+returns-clause-kept g c = visit_kept _ _ _ c.args.stacks.now.body c.visit_by_row.new.stacks.body _ c.visit_by_row.ensures

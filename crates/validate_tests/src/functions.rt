@@ -1,0 +1,208 @@
+//! Function validators: one of which an attempt was refused, which leaves no trace; one that has failed; and what can be
+//! asked of one.
+
+ghost use Rattle.std.specs.Prelude.{◌≡◌, [], false, IfOk};
+ghost use Rattle.validate_stacks.specs.State.{IsStarting};
+ghost use Rattle.wasmparser_validate.specs.Start.{state};
+
+use crate::expectations::{ample, expect, expect_error, expect_same};
+use crate::modules::lists_of;
+use crate::visits::{I32_CONST, I64_CONST};
+use std::alloc::AllocError;
+use std::process::Abort;
+use wasmparser_validate::func::{FuncValidator, operands_before};
+use wasmparser_validate::operators::{OperatorValidator, OperatorValidatorAllocations};
+use wasmparser_validate::resources::{ModuleLists, WasmModuleResources};
+use wasmparser_validate::types::{Error, Flags, ValType, WasmFeatures};
+use wasmparser_validate::visit::{
+    ControlOp, FrameKind, IntegerBinaryOp, IntegerType, NumericOp, Op, all_have_module_immediates,
+    is_well_ordered,
+};
+
+const DROP: Op<'static> = Op::Control(ControlOp::Drop);
+
+const END: Op<'static> = Op::Control(ControlOp::End);
+
+const I32_ADD: Op<'static> = Op::Numeric(NumericOp::IntegerBinary(
+    IntegerType::I32,
+    IntegerBinaryOp::Add,
+));
+
+const OPEN: &str = "control frames remain at end of function: END opcode expected";
+
+const NOTHING: &str = "type mismatch: expected i32 but nothing on stack";
+
+const OTHER: &str = "type mismatch: expected i32, found i64";
+
+const FAILED: &str = "function validator has failed";
+
+/// A function that takes nothing and gives nothing.
+fn function_of<'a, 'lists>(
+    rt: &(impl Abort + AllocGlobal),
+    lists: &'lists ModuleLists,
+) -> Result<FuncValidator<'a, 'lists, ModuleLists>, AllocError>
+    ensures { IfOk result (λ f. (f.accepted ≡ []) × (f.failed ≡ false)) }
+{
+    let allocs = OperatorValidatorAllocations::new(rt.alloc());
+    let v = OperatorValidator::new_func(0, 0, &WasmFeatures::all(), lists, allocs);
+    Ok(FuncValidator::new(rt.alloc(), ample(rt, v)?, lists))
+}
+
+/// Visits an operator, where a frame is open.
+fn visit<'a, R: WasmModuleResources>(
+    rt: &impl Abort,
+    function: &mut FuncValidator<'a, '_, R>,
+    op: Op<'a>,
+) -> Result<(), Error> {
+    expect(rt, function.control_stack_height() > 0);
+    function.op(9, op)
+}
+
+/// Attempts an operator, where a frame is open.
+fn attempt<'a, R: WasmModuleResources>(
+    rt: &impl Abort,
+    function: &mut FuncValidator<'a, '_, R>,
+    op: Op<'a>,
+) -> Result<(), Error> {
+    expect(rt, function.control_stack_height() > 0);
+    function.try_op(9, op)
+}
+
+/// Visits operators that are accepted.
+fn accept<'a, R: WasmModuleResources>(
+    rt: &impl Abort,
+    function: &mut FuncValidator<'a, '_, R>,
+    ops: &[Op<'a>],
+) -> Result<(), AllocError> {
+    for op in ops {
+        ample(rt, visit(rt, function, *op))?;
+    }
+    Ok(())
+}
+
+/// What can be asked of a function whose operands are an i64 and an i32.
+fn expect_two_operands<R: WasmModuleResources>(
+    rt: &impl Abort,
+    function: &FuncValidator<'_, '_, R>,
+) {
+    expect_same(rt, function.operand_stack_height(), 2);
+    expect_same(rt, function.control_stack_height(), 1);
+    expect_same(rt, function.peek_operand_at(0), Some(Some(ValType::I32)));
+    expect_same(rt, function.get_operand_type(1), Some(Some(ValType::I64)));
+    expect_same(rt, function.peek_operand_at(2), None);
+    expect_same(rt, function.current_frame(), Some(FrameKind::Block));
+    expect_same(rt, function.get_frame(0), Some(&function.first_frame()));
+    expect_same(rt, function.get_control_frame(1), None);
+    expect_same(rt, function.accepted().len(), 2);
+    expect(rt, !function.is_failed());
+}
+
+/// The types of all operands are an i64 and, on top, an i32.
+fn expect_types<R: WasmModuleResources>(
+    rt: &impl Abort,
+    function: &FuncValidator<'_, '_, R>,
+) -> Result<(), AllocError> {
+    let Ok(types) = function.operand_types() else {
+        return Err(AllocError);
+    };
+    let expected = [Some(ValType::I64), Some(ValType::I32)];
+    expect_same(rt, types.as_slice(), expected.as_slice());
+    Ok(())
+}
+
+/// The attempt of an addition is refused, and leaves no trace: the two constants are dropped, and the function ends.
+fn expect_five_accepted<R: WasmModuleResources>(
+    rt: &impl Abort,
+    function: &mut FuncValidator<'static, '_, R>,
+) -> Result<(), AllocError> {
+    accept(rt, function, &[I64_CONST, I32_CONST])?;
+    expect_error(rt, attempt(rt, function, I32_ADD), OTHER, 9)?;
+    expect_two_operands(rt, function);
+    expect_types(rt, function)?;
+    accept(rt, function, &[DROP, DROP, END])?;
+    expect_same(rt, function.accepted().len(), 5);
+    expect_same(rt, function.current_frame(), None);
+    ample(rt, function.finish(9))
+}
+
+#[test]
+fn an_attempt_that_is_refused_leaves_no_trace(rt: HostRuntime) -> Result<(), AllocError> {
+    let lists = lists_of(&rt, "type func ->")?;
+    let mut function = function_of(&rt, &lists)?;
+    expect_five_accepted(&rt, &mut function)
+}
+
+/// Has a frame open at first; and has failed behind a refused visit.
+fn expect_refusals<R: WasmModuleResources>(
+    rt: &impl Abort,
+    function: &mut FuncValidator<'static, '_, R>,
+) -> Result<(), AllocError> {
+    expect_error(rt, function.finish(9), OPEN, 9)?;
+    expect_error(rt, visit(rt, function, I32_ADD), NOTHING, 9)?;
+    expect(rt, function.is_failed());
+    expect_error(rt, visit(rt, function, I32_CONST), FAILED, 9)?;
+    expect_error(rt, attempt(rt, function, I32_CONST), FAILED, 9)?;
+    expect_same(rt, function.accepted().len(), 0);
+    expect_error(rt, function.finish(9), FAILED, 9)
+}
+
+#[test]
+fn a_function_that_has_failed_refuses_whatever_comes(rt: HostRuntime) -> Result<(), AllocError> {
+    let lists = lists_of(&rt, "type func ->")?;
+    let mut function = function_of(&rt, &lists)?;
+    expect_refusals(&rt, &mut function)
+}
+
+#[test]
+fn locals_of_a_function(rt: HostRuntime) -> Result<(), AllocError> {
+    let lists = lists_of(&rt, "type func ->")?;
+    let mut function = function_of(&rt, &lists)?;
+    ample(&rt, function.define_locals(1, 3, ValType::I64))?;
+    expect_same(&rt, function.len_locals(), 3);
+    expect_same(&rt, function.get_local_type(2), Some(ValType::I64));
+    expect_same(&rt, function.get_local_type(3), None);
+    Ok(())
+}
+
+/// The operators of a sum of the parameter and a constant.
+const SUM: &[(Op<'static>, u64)] = &[
+    (Op::Control(ControlOp::LocalGet(0)), 3),
+    (Op::Numeric(NumericOp::I32Const(1)), 4),
+    (I32_ADD, 5),
+    (END, 6),
+];
+
+/// How many operands there are before some of them, of which each is an i32.
+const BEFORE: &[(usize, usize)] = &[(0, 0), (2, 2), (4, 1)];
+
+/// The types of the operands before an operator.
+fn types_before<R: WasmModuleResources>(
+    rt: &(impl Abort + AllocGlobal),
+    v: &mut OperatorValidator,
+    lists: &R,
+    place: usize,
+) -> Result<Vec<Option<ValType>>, AllocError>
+    requires { IsStarting (R.context lists.now) (state v.old) }
+{
+    expect(rt, is_well_ordered(SUM) && place <= SUM.len());
+    expect(rt, all_have_module_immediates(SUM));
+    match operands_before(rt.alloc(), v, SUM, lists, place) {
+        Ok(types) => Ok(types),
+        Err((_, refusal)) => ample(rt, Err(refusal)),
+    }
+}
+
+#[test]
+fn types_between_operators(rt: HostRuntime) -> Result<(), AllocError> {
+    let lists = lists_of(&rt, "type func i32 -> i32")?;
+    for (place, count) in BEFORE {
+        let allocs = OperatorValidatorAllocations::new(rt.alloc());
+        let begun = OperatorValidator::new_func(0, 2, &WasmFeatures::all(), &lists, allocs);
+        let types = types_before(&rt, &mut ample(&rt, begun)?, &lists, *place)?;
+        expect_same(&rt, types.len(), *count);
+        for ty in &types {
+            expect_same(&rt, *ty, Some(ValType::I32));
+        }
+    }
+    Ok(())
+}

@@ -1,0 +1,353 @@
+//! Attempts that are taken back, over the stacks below a validator: there it can be seen which locals are set, and in which
+//! order they first were.
+
+ghost use Rattle.std.specs.Prelude.{◌≡◌, None, OnOk};
+ghost use Rattle.validation_rules.specs.Operators.{operator};
+ghost use Rattle.validate_stacks.specs.Pops.{IsKept};
+ghost use Rattle.validate_stacks.specs.State.{IsStarting, IsValidBody};
+ghost use Rattle.validate_stacks.specs.Steps.{empty_body};
+ghost use Rattle.validate_stacks.specs.Visits.{MayVisit, Meets};
+
+use crate::answers::add_answer;
+use crate::expectations::{ample, expect, expect_same};
+use crate::modules::lists_of;
+use crate::snapshot::{Seen, Snapshot};
+use crate::visits::{I32_CONST, UNREACHABLE};
+use std::alloc::{AllocError, Global};
+use std::mem;
+use std::process::Abort;
+use validate_operators::check_operator;
+use validate_stacks::Stacks;
+use wasmparser_validate::operators::{Frame, OperatorValidatorAllocations};
+use wasmparser_validate::resources::WasmModuleResources;
+use wasmparser_validate::types::{
+    AbstractHeapType, Error, Flags, HeapType, RefType, ValType, WasmFeatures,
+};
+use wasmparser_validate::visit::{BlockType, ControlOp, FrameKind, LocalGroup, Op};
+
+impl Seen for Stacks {
+    fn operand(&self, depth: usize) -> Option<Option<ValType>> {
+        self.peek_operand_at(depth)
+    }
+
+    fn frame(&self, depth: usize) -> Option<Frame> {
+        self.get_frame(depth).copied()
+    }
+
+    fn heights(&self) -> (usize, usize) {
+        (self.operand_stack_height(), self.control_stack_height())
+    }
+}
+
+/// All that can be seen of the stacks: frames, operands, and the locals that were set, in the order in which they first
+/// were.
+#[derive(Drop)]
+struct Whole {
+    seen: Snapshot,
+    order: Vec<u32>,
+}
+
+impl Whole {
+    /// What can be seen now.
+    fn of(alloc: Global, stacks: &Stacks) -> Result<Whole, AllocError> {
+        Ok(Whole {
+            seen: Snapshot::of(alloc, stacks)?,
+            order: Vec::from_slice(alloc, stacks.inits().set_since(0))?,
+        })
+    }
+
+    /// Whether of the locals that were set none is unset.
+    fn has_set(&self, stacks: &Stacks) -> bool {
+        for index in &self.order {
+            if stacks.inits().is_uninit(*index) {
+                return false;
+            }
+        }
+        true
+    }
+
+    /// Whether the same can be seen now. It takes no memory.
+    fn is_of(&self, stacks: &Stacks) -> bool {
+        self.seen.is_of(stacks)
+            && stacks.inits().set_since(0) == self.order.as_slice()
+            && self.has_set(stacks)
+    }
+}
+
+/// Begins a body that takes nothing and gives nothing.
+fn open<R: WasmModuleResources>(stacks: &mut Stacks, lists: &R) -> Result<(), AllocError>
+    requires { stacks.old.body ≡ empty_body stacks.old.body.features }
+    ensures { OnOk result (IsStarting (R.context lists.now) stacks.new.body) }
+{
+    let _lists = lists;
+    match stacks.push_bare_ctrl(FrameKind::Block, BlockType::Empty) {
+        Ok(()) => Ok(()),
+        Err(_) => Err(AllocError),
+    }
+}
+
+/// Declares a group of locals.
+fn declare<R: WasmModuleResources>(
+    rt: &impl Abort,
+    stacks: &mut Stacks,
+    lists: &R,
+    group: LocalGroup,
+) -> Result<(), AllocError>
+    requires { IsStarting (R.context lists.now) stacks.old.body }
+    ensures { IsStarting (R.context lists.now) stacks.new.body }
+{
+    let features = stacks.features();
+    let mut canonical = group.ty;
+    ample(rt, lists.check_value_type(&mut canonical, &features, 0))?;
+    match stacks.define_locals(group.count, canonical) {
+        Ok(is_within) => {
+            expect(rt, is_within);
+            Ok(())
+        }
+        Err(_) => Err(AllocError),
+    }
+}
+
+/// Begins a body that takes nothing and gives nothing, with these locals.
+fn begin<R: WasmModuleResources>(
+    rt: &impl Abort,
+    stacks: &mut Stacks,
+    lists: &R,
+    locals: &[LocalGroup],
+) -> Result<(), AllocError>
+    requires { stacks.old.body ≡ empty_body stacks.old.body.features }
+    ensures { OnOk result (IsStarting (R.context lists.now) stacks.new.body) }
+{
+    open(stacks, lists)?;
+    for group in locals {
+        declare(rt, stacks, lists, *group)?;
+    }
+    Ok(())
+}
+
+/// One visit, with all that it promises.
+fn visit_by_row<R: WasmModuleResources>(
+    stacks: &mut Stacks,
+    lists: &R,
+    op: Op<'_>,
+) -> Result<(), Error>
+    requires { MayVisit (R.context lists.now) stacks.old }
+    ensures { Meets (R.context lists.now) (λ cx. operator cx op.entry) 7 stacks.old.body result
+        stacks.new.body }
+{
+    check_operator(stacks, lists, 7, &op)
+}
+
+/// One visit.
+fn visit<R: WasmModuleResources>(stacks: &mut Stacks, lists: &R, op: Op<'_>) -> Result<(), Error>
+    requires { MayVisit (R.context lists.now) stacks.old }
+    ensures valid { IsValidBody (R.context lists.now) stacks.new.body }
+    ensures kept { IsKept stacks.old.body stacks.new.body }
+{
+    visit_by_row(stacks, lists, op)
+}
+
+/// Attempts an operator, and takes it back: then all is as it was before, also where memory was wanting. Adds what was
+/// there within the attempt.
+fn add_undone<R: WasmModuleResources>(
+    rt: &(impl Abort + AllocGlobal),
+    text: &mut String,
+    stacks: &mut Stacks,
+    lists: &R,
+    op: Op<'_>,
+) -> Result<(), AllocError>
+    requires idle { stacks.old.body.undone ≡ None }
+    requires visit { MayVisit (R.context lists.now) stacks.old }
+    ensures same { stacks.new.body ≡ stacks.old.body }
+{
+    let before = Whole::of(rt.alloc(), stacks)?;
+    stacks.begin_try_op();
+    let answer = visit(stacks, lists, op);
+    let added = add_answer(text, &answer, stacks);
+    stacks.rollback();
+    expect(rt, before.is_of(stacks));
+    added
+}
+
+/// The same, and then the operator is visited, unless its line begins with `try`. Adds what is there behind it.
+fn add_step<R: WasmModuleResources>(
+    rt: &(impl Abort + AllocGlobal),
+    text: &mut String,
+    stacks: &mut Stacks,
+    lists: &R,
+    op: Op<'_>,
+    is_undone: bool,
+) -> Result<(), AllocError>
+    requires idle { stacks.old.body.undone ≡ None }
+    requires visit { MayVisit (R.context lists.now) stacks.old }
+    ensures idle { stacks.new.body.undone ≡ None }
+    ensures valid { IsValidBody (R.context lists.now) stacks.new.body }
+{
+    add_undone(rt, text, stacks, lists, op)?;
+    if is_undone {
+        return add_answer(text, &Ok(()), stacks);
+    }
+    match visit(stacks, lists, op) {
+        Err(refusal) if refusal.is_out_of_memory() => Err(AllocError),
+        _ => Ok(()),
+    }
+}
+
+/// Adds what the operators of these lines answer, one by one.
+fn add_each<R: WasmModuleResources>(
+    rt: &(impl Abort + AllocGlobal),
+    text: &mut String,
+    stacks: &mut Stacks,
+    lists: &R,
+    body: (&str, &[(Op<'_>, u64)]),
+) -> Result<(), AllocError>
+    requires { IsStarting (R.context lists.now) stacks.old.body }
+{
+    let (mut left, ops) = body;
+    for pair in ops {
+        if stacks.control_stack_height() == 0 {
+            return Ok(());
+        }
+        let (line, behind) = left.split_once('\n').unwrap_or((left, ""));
+        left = behind;
+        add_step(rt, text, stacks, lists, pair.0, line.starts_with("try "))?;
+    }
+    Ok(())
+}
+
+/// Adds what the operators of a body answer that takes nothing and gives nothing, in these buffers.
+pub fn add_over_stacks<R: WasmModuleResources>(
+    rt: &(impl Abort + AllocGlobal),
+    text: &mut String,
+    buffers: &mut OperatorValidatorAllocations,
+    lists: &R,
+    begin_with: (&WasmFeatures, &[LocalGroup]),
+    body: (&str, &[(Op<'_>, u64)]),
+) -> Result<(), AllocError> {
+    let (features, locals) = begin_with;
+    let allocs = mem::replace(buffers, OperatorValidatorAllocations::new(rt.alloc()));
+    let mut stacks = Stacks::new(*features, allocs);
+    begin(rt, &mut stacks, lists, locals)?;
+    let done = add_each(rt, text, &mut stacks, lists, body);
+    *buffers = stacks.into_allocations();
+    done
+}
+
+/// Three locals of type `(ref func)`, of which there is no default value.
+const UNSET: &[LocalGroup] = &[LocalGroup {
+    count: 3,
+    ty: ValType::Ref(RefType {
+        nullable: false,
+        heap_type: HeapType::Abstract {
+            shared: false,
+            ty: AbstractHeapType::Func,
+        },
+    }),
+    offset: 0,
+}];
+
+/// An `if` in dead code in which the second local is set, and then the first.
+const BEFORE: &[Op<'static>] = &[
+    I32_CONST,
+    Op::Control(ControlOp::If(BlockType::Empty)),
+    UNREACHABLE,
+    Op::Control(ControlOp::LocalSet(1)),
+    Op::Control(ControlOp::LocalSet(0)),
+];
+
+/// Operators that are attempted behind them: what is set then, in order, and which part is open.
+const ATTEMPTS: &[(Op<'static>, &[u32], FrameKind)] = &[
+    (Op::Control(ControlOp::Else), &[], FrameKind::Else),
+    (Op::Control(ControlOp::End), &[], FrameKind::Block),
+    (
+        Op::Control(ControlOp::LocalSet(2)),
+        &[1, 0, 2],
+        FrameKind::If,
+    ),
+    (Op::Control(ControlOp::Return), &[1, 0], FrameKind::If),
+];
+
+/// Both locals are there still.
+const BEHIND: &[Op<'static>] = &[
+    Op::Control(ControlOp::LocalGet(0)),
+    Op::Control(ControlOp::LocalGet(1)),
+];
+
+/// Visits operators that are accepted, and leave a frame open.
+fn visit_each<R: WasmModuleResources>(
+    rt: &impl Abort,
+    stacks: &mut Stacks,
+    lists: &R,
+    ops: &[Op<'_>],
+) -> Result<(), AllocError>
+    requires idle { stacks.old.body.undone ≡ None }
+    requires visit { MayVisit (R.context lists.now) stacks.old }
+    ensures idle { stacks.new.body.undone ≡ None }
+    ensures visit { MayVisit (R.context lists.now) stacks.new }
+{
+    for op in ops {
+        let answer = visit(stacks, lists, *op);
+        expect(rt, stacks.control_stack_height() > 0);
+        ample(rt, answer)?;
+    }
+    Ok(())
+}
+
+/// The `if` is open and dead, nothing is on it, and the second local was set before the first.
+fn expect_before(rt: &impl Abort, stacks: &Stacks) {
+    expect_same(rt, stacks.inits().set_since(0), [1, 0].as_slice());
+    expect_same(rt, stacks.heights(), (0, 2));
+    let frame = stacks.frame(0);
+    expect_same(rt, frame.map(|frame| frame.kind), Some(FrameKind::If));
+    expect_same(rt, frame.map(|frame| frame.unreachable), Some(true));
+}
+
+/// Attempts an operator, and takes it back: then the order is the one before.
+fn expect_undone<R: WasmModuleResources>(
+    rt: &impl Abort,
+    stacks: &mut Stacks,
+    lists: &R,
+    attempt: &(Op<'static>, &[u32], FrameKind),
+) -> Result<(), AllocError>
+    requires idle { stacks.old.body.undone ≡ None }
+    requires visit { MayVisit (R.context lists.now) stacks.old }
+    ensures same { stacks.new.body ≡ stacks.old.body }
+{
+    let (op, order, kind) = *attempt;
+    expect_before(rt, stacks);
+    stacks.begin_try_op();
+    let answer = visit(stacks, lists, op);
+    if answer.is_ok() {
+        expect_same(rt, stacks.inits().set_since(0), order);
+        expect_same(rt, stacks.frame(0).map(|frame| frame.kind), Some(kind));
+    }
+    stacks.rollback();
+    expect_before(rt, stacks);
+    ample(rt, answer)
+}
+
+/// Each attempt in turn. Then the locals are there still.
+fn expect_attempts<R: WasmModuleResources>(
+    rt: &impl Abort,
+    stacks: &mut Stacks,
+    lists: &R,
+) -> Result<(), AllocError>
+    requires { IsStarting (R.context lists.now) stacks.old.body }
+{
+    visit_each(rt, stacks, lists, BEFORE)?;
+    for attempt in ATTEMPTS {
+        expect_undone(rt, stacks, lists, attempt)?;
+    }
+    visit_each(rt, stacks, lists, BEHIND)?;
+    expect_same(rt, stacks.heights(), (2, 2));
+    Ok(())
+}
+
+#[test]
+fn locals_are_set_in_the_order_before_an_attempt(rt: HostRuntime) -> Result<(), AllocError> {
+    let lists = lists_of(&rt, "type func ->")?;
+    let allocs = OperatorValidatorAllocations::new(rt.alloc());
+    let mut stacks = Stacks::new(WasmFeatures::all(), allocs);
+    begin(&rt, &mut stacks, &lists, UNSET)?;
+    expect_attempts(&rt, &mut stacks, &lists)
+}

@@ -6,7 +6,7 @@ use std::process::Abort;
 use wasmparser_validate::types::{
     AbstractHeapType, CoreTypeId, Error, Flags, FuncType, Gate, HeapType, MaybeType, MemoryType,
     NotDone, OutOfMemory, PackedIndex, RefType, Refusal, Refused, StorageType, TableType, Told,
-    UnpackedIndex, ValType, WasmFeatures, func_signature_matches, grown,
+    UnpackedIndex, ValType, WasmFeatures, Wording, func_signature_matches, grown,
 };
 
 /// Which flags are set, in the order of their bits, each by its own call.
@@ -189,8 +189,10 @@ fn refusals_with_their_texts(rt: HostRuntime) -> Result<(), AllocError> {
     expect_same(&rt, unmade.message(), "out of memory");
     let plain = Error::new("plain", 8);
     expect(&rt, plain.message() == "plain" && plain.reason().is_none());
-    let arity = Refusal::SelectArity.fixed_text();
-    expect_same(&rt, arity, Some("invalid result arity"));
+    let arity = Refusal::SelectArity.wording();
+    expect(&rt, matches!(arity, Wording::Fixed("invalid result arity")));
+    let local = Refusal::UnknownLocal(7).wording();
+    expect(&rt, matches!(local, Wording::Index { index: 7, .. }));
     Ok(())
 }
 

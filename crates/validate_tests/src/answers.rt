@@ -232,15 +232,18 @@ fn add_checked<S: Seen>(
     answer: Result<bool, (usize, Error)>,
     seen: &S,
 ) -> Result<(), AllocError> {
-    add_heights(text, heights)?;
     match answer {
         Ok(is_closed) => {
             let (_, frames) = seen.heights();
             expect_same(rt, is_closed, frames == 0);
-            Ok(())
+            add_heights(text, heights)
         }
         Err((place, refusal)) => {
             expect_same(rt, place, heights.len());
+            if refusal.is_out_of_memory() {
+                return Err(AllocError);
+            }
+            add_heights(text, heights)?;
             add_answer(text, &Err(refusal), seen)
         }
     }

@@ -3,3 +3,4 @@ pub mod Params
 pub mod Listed
 pub mod Accepted
 pub mod Attempted
+pub mod CountedRuns

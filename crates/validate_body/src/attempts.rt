@@ -1,6 +1,6 @@
 //! One operator that is attempted: kept where it is accepted, or taken back whatever its outcome.
 
-ghost use Rattle.std.specs.Prelude.{◌≡◌, ◌×◌, false, None, OnOk, OnErr, IfErr};
+ghost use Rattle.std.specs.Prelude.{◌≡◌, false, None, OnOk, OnErr, IfErr};
 ghost use Rattle.validation_rules.specs.Operators.{operator};
 ghost use Rattle.validation_rules.specs.Static.{RowHolds, RowFails};
 ghost use Rattle.validate_stacks.specs.Pops.{IsKept};

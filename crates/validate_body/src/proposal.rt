@@ -174,6 +174,9 @@ impl<'validator, 'resources, R: WasmModuleResources> WasmProposalValidator<
         ensures valid { IsValidBody (R.context self.old.resources.now) (state self.new.inner.now) }
         ensures kept { IsKept (state self.old.inner.now) (state self.new.inner.now) }
     {
+        if n == 0 {
+            return Ok(());
+        }
         let body = Body {
             stacks: &mut self.inner.stacks,
             resources: self.resources,

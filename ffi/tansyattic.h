@@ -66,7 +66,8 @@ enum tansyattic_kind {
     TANSYATTIC_MODULE = 6          /* the module as a whole */
 };
 
-/* A set of proposals: those that are on. Other bits than these say nothing. */
+/* A set of proposals: those that are on. Other bits than these say nothing. BULK_MEMORY brings what BULK_MEMORY_OPT lets
+ * in alone, memory.copy and memory.fill. */
 #define TANSYATTIC_FEATURE_MULTI_VALUE               (UINT32_C(1) << 0)
 #define TANSYATTIC_FEATURE_FLOATS                    (UINT32_C(1) << 1)
 #define TANSYATTIC_FEATURE_SIMD                      (UINT32_C(1) << 2)

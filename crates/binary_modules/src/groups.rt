@@ -156,7 +156,7 @@ impl TypeSection {
     }
 
     /// Reads a group behind those that were read. It refuses what the reads of its types refuse, a type behind the
-    /// group, `unknown type: type index out of bounds`, and want of memory.
+    /// group, `unknown type N: type index out of bounds`, and want of memory.
     fn read_group(
         &mut self,
         alloc: Global,
@@ -174,7 +174,7 @@ impl TypeSection {
         let count = read_count(reader, explicit)?;
         let mut again = reader.duplicate();
         let types = read_rolled(alloc, reader, &self.canonical, count)?;
-        let words = words_of(alloc, &types, offset)?;
+        let words = words_of(alloc, &types, first, offset)?;
         let stands = groups.stand(Group { first, types }, words)?;
         self.declare(alloc, &mut again, stands, count)?;
         push(
@@ -216,7 +216,7 @@ fn read_rolled(
 }
 
 /// Reads the types of a module, group by group. It refuses what the reads of types refuse, a name of a type behind
-/// its group, `unknown type: type index out of bounds`, more types than 2^32, `type index greater than implementation
+/// its group, `unknown type N: type index out of bounds`, more types than 2^32, `type index greater than implementation
 /// limits`, and want of memory.
 pub fn read_types(alloc: Global, reader: &mut BinaryReader<'_>) -> Result<TypeSection, ReadError>
     ensures { IfOk result (λ section. AreTypes reader.old.left section.types.items section.canonical.items

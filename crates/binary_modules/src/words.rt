@@ -15,8 +15,8 @@ struct Words {
     words: Vec<u32>,
     /// How many types the group has.
     count: usize,
-    /// Whether a type behind the group is named.
-    is_unknown: bool,
+    /// Where a type stands that is named and is behind the group, counted from the group's first.
+    unknown: Option<u32>,
 }
 
 impl Words {
@@ -26,7 +26,7 @@ impl Words {
             UnpackedIndex::Module(index) => index.wrapping_mul(2),
             UnpackedIndex::Id(place) => {
                 if place.index() as usize >= self.count {
-                    self.is_unknown = true;
+                    self.unknown = Some(place.index());
                 }
                 place.index().wrapping_mul(2) | 1
             }
@@ -138,19 +138,27 @@ fn kind_of(inner: &CompositeInnerType) -> u32 {
     }
 }
 
-/// The words of these types, which are a group, rolled up, and stand at the offset. It refuses a name of a type that isn't
-/// there, `unknown type: type index out of bounds`, and want of memory.
-pub fn words_of(alloc: Global, types: &[SubType], offset: u64) -> Result<Vec<u32>, ReadError> {
+/// The words of these types, which are a group, rolled up, behind so many types, and stand at the offset. It refuses a
+/// name of a type that isn't there, `unknown type N: type index out of bounds`, and want of memory.
+pub fn words_of(
+    alloc: Global,
+    types: &[SubType],
+    first: u32,
+    offset: u64,
+) -> Result<Vec<u32>, ReadError> {
     let mut words = Words {
         words: Vec::new(alloc),
         count: types.len(),
-        is_unknown: false,
+        unknown: None,
     };
     for ty in types {
         words.sub_type(ty)?;
     }
-    if words.is_unknown {
-        return Err(ReadError::malformed(Fault::UnknownType, offset));
+    match words.unknown {
+        Some(place) => {
+            let index = first.saturating_add(place);
+            Err(ReadError::malformed(Fault::UnknownType(index), offset))
+        }
+        None => Ok(words.words),
     }
-    Ok(words.words)
 }

@@ -38,8 +38,8 @@ pub enum Fault {
     IntegerTooLong,
     /// `malformed UTF-8 encoding`
     MalformedUtf8Encoding,
-    /// `unknown type: type index out of bounds`
-    UnknownType,
+    /// `unknown type N: type index out of bounds`, of a type that names the one at this index.
+    UnknownType(u32),
     /// `invalid element kind`
     InvalidElementKind,
     /// `invalid flags of a segment`
@@ -75,7 +75,7 @@ pub enum Fault {
 }
 
 impl Fault {
-    /// The text of it.
+    /// The text of it, without the index that one of them has.
     pub fn text(self) -> &'static str {
         match self {
             Fault::InvalidAbstractHeapType => "invalid abstract heap type",
@@ -93,7 +93,7 @@ impl Fault {
             Fault::IntegerTooLarge => "integer too large",
             Fault::IntegerTooLong => "integer representation too long",
             Fault::MalformedUtf8Encoding => "malformed UTF-8 encoding",
-            Fault::UnknownType => "unknown type: type index out of bounds",
+            Fault::UnknownType(_) => "unknown type: type index out of bounds",
             Fault::InvalidElementKind => "invalid element kind",
             Fault::InvalidSegmentFlags => "invalid flags of a segment",
             Fault::InvalidAtomicOrdering => "invalid atomic ordering",

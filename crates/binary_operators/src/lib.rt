@@ -22,7 +22,7 @@ pub use crate::equal::are_groups_equal;
 pub use crate::error::{Cause, Fault, ReadError};
 pub use crate::lists::{OperatorLists, push};
 pub use crate::operators::{read_operator, read_operator_into};
-pub use crate::reader::{BinaryReader, ByteRange};
+pub use crate::reader::BinaryReader;
 pub use crate::types::{
     CanonicalTypes, GroupNames, read_ref_type, read_type_number, read_value_type,
 };

@@ -8,16 +8,6 @@ ghost use Rattle.binary_operators.specs.Types.{type_number};
 use crate::error::{Fault, ReadError};
 use crate::integers::{has_bits, last_biased, widened};
 use std::marker::Model;
-use std::str;
-
-/// Some of the bytes of a module.
-#[derive(Clone, Copy)]
-pub struct ByteRange {
-    /// The offset of the first, from the first byte of the module.
-    pub start: usize,
-    /// The offset behind the last.
-    pub end: usize,
-}
 
 /// The bytes of a module up to some end, and how many of them were read (wasmparser's `BinaryReader`).
 /// Contracts see what is left, an `Unread` of `specs/`.
@@ -44,22 +34,6 @@ impl<'a> BinaryReader<'a> {
         ensures { result ≡ record { offset = 0; left = bytes.now } }
     {
         BinaryReader { bytes, place: 0 }
-    }
-
-    /// A reader of some bytes of a module, or None where they aren't there.
-    pub fn of_range(bytes: &'a [u8], range: ByteRange) -> Option<BinaryReader<'a>>
-        ensures { IfSome result (λ r. r ≡ record {
-          offset = range.start;
-          left = drop range.start (take range.end bytes.now);
-        }) }
-    {
-        if range.start > range.end || range.end > bytes.len() {
-            return None;
-        }
-        Some(BinaryReader {
-            bytes: &bytes[..range.end],
-            place: range.start,
-        })
     }
 
     /// Another reader of what is left.
@@ -160,20 +134,6 @@ impl<'a> BinaryReader<'a> {
         match self.read_u8() {
             Ok(_) | Err(_) => {}
         }
-    }
-
-    /// Reads a byte that is this one at most. It refuses where none is left, `unexpected end`, and a greater one for
-    /// this fault.
-    pub fn read_up_to(&mut self, most: u8, fault: Fault) -> Result<u8, ReadError>
-        ensures read { IfOk result (λ byte. self.old.left ≡ byte ∷ self.new.left) }
-        ensures within { IfOk result (λ byte. byte ≤ most) }
-        ensures refused { OnErr result ((byte : ℕ) → take 1 self.old.left ≡ byte ∷ [] → most < byte) }
-        ensures kept { OnErr result (self.new ≡ self.old) }
-    {
-        if self.peek()? > most {
-            return Err(ReadError::malformed(fault, self.offset()));
-        }
-        self.read_u8()
     }
 
     /// Reads the next byte if it is this one, and answers whether it is. It refuses where none is left:
@@ -416,17 +376,5 @@ impl<'a> BinaryReader<'a> {
         let low = self.read_f32()?;
         let high = self.read_f32()?;
         Ok(u64::from(high) * 0x1_0000_0000 + u64::from(low))
-    }
-
-    /// Reads a name (WebAssembly core specification, "Binary Format: Values", "Names"). It refuses what
-    /// [`BinaryReader::read_var_u32`] refuses, and `malformed UTF-8 encoding`.
-    pub fn read_name(&mut self) -> Result<&'a str, ReadError> {
-        let count = self.read_var_u32()?;
-        let offset = self.offset();
-        let bytes = self.read_bytes(count as usize)?;
-        match str::from_utf8(bytes) {
-            Ok(name) => Ok(name),
-            Err(_) => Err(ReadError::malformed(Fault::MalformedUtf8Encoding, offset)),
-        }
     }
 }

@@ -63,11 +63,11 @@ fn step<R: WasmModuleResources>(
     ensures idle { (state v.new).undone ≡ None }
 {
     let offset = code.offset();
-    let op = code.read_operator(lists)?;
     if v.control_stack_height() == 0 {
         let refusal = Error::new("operators remaining after end of function", offset);
         return Err(CheckError::Refused(refusal));
     }
+    let op = code.read_operator(lists)?;
     v.check(resources, offset, op)?;
     Ok(())
 }
@@ -113,10 +113,11 @@ fn print_body(rt: &HostRuntime, module: &LoadedModule<'_>, function: u32) -> io:
     };
     let features = module.features().operator_features();
     let resources = module.resources();
-    match start(rt.alloc(), resources, &features, ty, &mut code) {
-        Ok(mut v) => print_operators(rt, &mut v, resources, module.bytes(), &mut code),
-        Err(error) => Ok(Verdict::of_check(Err(error))),
-    }
+    let verdict = match start(rt.alloc(), resources, &features, ty, &mut code) {
+        Ok(mut v) => print_operators(rt, &mut v, resources, module.bytes(), &mut code)?,
+        Err(error) => Verdict::of_check(Err(error)),
+    };
+    Ok(verdict.under(&features))
 }
 
 /// Prints what a body or a module comes to.

@@ -8,3 +8,8 @@ use Rattle.module_check.specs.declared.verdict.CheckError.TheVariants.{Unread, R
 abbrev pub IsRefusal : CheckError → Type 0
 IsRefusal (Unread e) = e.cause ≢ OutOfMemory
 IsRefusal (Refused e) = e.wants_memory ≡ false
+
+-- it could be read, and is refused: memory didn't run out
+abbrev pub IsInvalid : CheckError → Type 0
+IsInvalid (Unread e) = ⊥
+IsInvalid (Refused e) = e.wants_memory ≡ false

@@ -1,6 +1,6 @@
 //! The check of one body.
 
-ghost use Rattle.std.specs.Prelude.{◌≡◌, ◌≢◌, OnOk, IfErr};
+ghost use Rattle.std.specs.Prelude.{◌≡◌, ◌≢◌, ℕ, true, OnOk, IfErr};
 ghost use Rattle.validate_body.specs.Start.{state};
 ghost use Rattle.validate_stacks.specs.State.{IsStarting};
 ghost use Rattle.validate_body.specs.Begin.{IsBodyStart};
@@ -8,7 +8,8 @@ ghost use Rattle.module_check.specs.Accepted.{IsAcceptedCode};
 ghost use Rattle.module_check.specs.Constant.{may_stand};
 ghost use Rattle.module_check.specs.Refusals.{IsRefusal};
 ghost use Rattle.module_check.specs.Safe.{IsSafeCode};
-ghost use Rattle.module_check.specs.declared.verdict.Verdict.TheVariants.{Accepted, OutOfMemory};
+ghost use Rattle.module_check.specs.declared.verdict.Verdict.TheVariants.{Accepted, NotCovered, OutOfMemory};
+ghost use Rattle.validate_types.specs.Features.{has, simd};
 ghost use Rattle.validate_types.specs.declared.features.WasmFeatures.{WasmFeatures};
 
 use crate::buffers::BodyBuffers;
@@ -61,10 +62,10 @@ fn check_body_from<R: WasmModuleResources>(
 /// - `Accepted`: all of the bytes were read, each operator is accepted, and the last closes the body. Then no run of
 ///   these operators gets stuck, from the start that the kind and the locals make, and what it returns fits the
 ///   results. In a constant expression each operator is constant.
-/// - `Refused`: the validator refuses an operator; or a frame is open at the end; or an operator stands after the one
-///   that closes the body; or one isn't constant.
+/// - `Refused`: the validator refuses an operator; or a frame is open at the end; or a byte stands after the operator
+///   that closes the body; or an operator isn't constant; or it is one on vectors, and their proposal is off.
 /// - `Malformed`: it can't be read.
-/// - `NotCovered`: a vector operator stands after operators that are accepted.
+/// - `NotCovered`: a vector operator stands after operators that are accepted, and its proposal is on.
 /// - `OutOfMemory`: there was no memory for the check.
 ///
 /// But for want of memory a body is accepted exactly if its bytes are locals and operators whose rules all hold. Vector
@@ -82,6 +83,7 @@ pub fn check_body<R: WasmModuleResources>(
         kind (may_stand constant.entry) reader.old.left }
     ensures refused { result ≢ Accepted → result ≢ OutOfMemory → ¬ IsAcceptedCode (R.context resources.now)
         features.now canonical.entry kind (may_stand constant.entry) reader.old.left }
+    ensures covered { (offset : ℕ) → result ≡ NotCovered offset → has features.now simd ≡ true }
 {
     let BodyBuffers {
         validator,
@@ -93,7 +95,7 @@ pub fn check_body<R: WasmModuleResources>(
             let checked = check_body_from(
                 validator, resources, reader, canonical, lists, kind, constant,
             );
-            Verdict::of_check(checked)
+            Verdict::of_check(checked).under(features)
         }
         Err(refusal) => Verdict::of_refusal(refusal),
     }

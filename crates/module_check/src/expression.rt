@@ -64,7 +64,7 @@ pub(crate) fn check_constant_operators<R: WasmModuleResources>(
         read_operator_into(reader, &canonical, lists, &mut op)?;
         check_operator(v, resources, offset, &op, &place)?;
         if v.control_stack_height() == 0 {
-            return check_end(reader.duplicate(), canonical, lists);
+            return check_end(reader.duplicate());
         }
     }
     Err(unclosed(reader.offset()))

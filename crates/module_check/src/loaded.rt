@@ -1,6 +1,6 @@
 //! A module whose bodies are to be checked.
 
-ghost use Rattle.std.specs.Prelude.{◌≡◌, ◌≢◌, ◌≤◌, ◌<◌, ◌+◌, ◌^◌, false, length, map, Some, None, IfSome, OnSome, IfOk, OnOk, IfErr};
+ghost use Rattle.std.specs.Prelude.{◌≡◌, ◌≢◌, ◌≤◌, ◌<◌, ◌+◌, ◌^◌, ℕ, true, false, length, map, Some, None, IfSome, OnSome, IfOk, OnOk, IfErr};
 ghost use Rattle.binary_modules.specs.ContentsRead.{bytes_of as bytes_left};
 ghost use Rattle.binary_modules.specs.Kept.{told};
 ghost use Rattle.binary_modules.specs.Modules.{IsModule};
@@ -16,9 +16,9 @@ use crate::code::CodeReader;
 use crate::constant::ConstantPlace;
 use crate::verdict::Verdict;
 use binary_modules::{ConstantExpression, FunctionNames, Module, read_function_names, read_module};
-use binary_operators::{BinaryReader, CanonicalTypes, ReadError};
+use binary_operators::{BinaryReader, CanonicalTypes, Cause, Fault, ReadError};
 use module_rules::{
-    DeclaredModule, ModuleFeatures, expression_type, lookup_lists, validate_module,
+    DeclaredModule, ModuleFeatures, expression_type, lookup_lists, unknown_type, validate_module,
 };
 use std::alloc::Global;
 use validate_resources::{ModuleLists, WasmModuleResources};
@@ -51,14 +51,15 @@ impl<'a> LoadedModule<'a> {
     ghost use Rattle.module_check.specs.Loaded.{IsAcceptedFunction, IsAcceptedExpression};
     ghost use Rattle.module_check.specs.Loaded.{IsSafeFunction, IsSafeExpression};
     ghost use Rattle.module_check.specs.Safe.{IsSafeCode};
-    ghost use Rattle.module_check.specs.declared.verdict.Verdict.TheVariants.{Accepted, Refused, OutOfMemory};
+    ghost use Rattle.module_check.specs.declared.verdict.Verdict.TheVariants.{Accepted, Refused, NotCovered, OutOfMemory};
     ghost use Rattle.module_rules.specs.Features.{operator_features};
+    ghost use Rattle.validate_types.specs.Features.{has, simd};
     ghost use Rattle.validate_types.specs.declared.error.Error.{Error};
 
     /// Reads a module, of which these are all the bytes, and checks that what it declares is valid under these
     /// proposals. An error is never `Accepted`. It is `Malformed` if the bytes aren't those of a module, `Refused` if
-    /// what it declares isn't valid, `NotCovered` if a constant expression has a vector operator other than
-    /// `v128.const`, or `OutOfMemory`.
+    /// what it declares isn't valid, or a constant expression has a vector operator other than `v128.const` and the
+    /// proposal of these is off, `NotCovered` if it is on, or `OutOfMemory`.
     pub fn new(
         alloc: Global,
         bytes: &'a [u8],
@@ -67,10 +68,12 @@ impl<'a> LoadedModule<'a> {
         ensures bytes { IfOk result (λ m. bytes_of m ≡ bytes.now) }
         ensures features { IfOk result (λ m. features_of m ≡ features) }
         ensures refused { IfErr result (λ verdict. verdict ≢ Accepted) }
+        ensures covered { IfErr result (λ verdict. (offset : ℕ) → verdict ≡ NotCovered offset
+            → has (operator_features features) simd ≡ true) }
     {
         match read_module(alloc, bytes) {
             Ok(module) => LoadedModule::of_module(alloc, bytes, features, module),
-            Err(error) => Err(Verdict::of_read_error(error)),
+            Err(error) => Err(unread_module(alloc, error).under(&features.operator_features())),
         }
     }
 
@@ -91,6 +94,7 @@ impl<'a> LoadedModule<'a> {
         ensures refused { IfErr result (λ verdict. verdict ≢ Accepted) }
         ensures invalid { IfErr result (λ v. (e : Error) → v ≡ Refused e
             → is_valid_module features (declarations_of module.entry.declared) ≡ false) }
+        ensures covered { IfErr result (λ v. (offset : ℕ) → v ≢ NotCovered offset) }
     {
         let Module {
             declared,
@@ -238,6 +242,8 @@ impl<'a> LoadedModule<'a> {
             → AreTypesOf self.now types
             → ¬ IsAcceptedCode (declared self.now) (operator_features self.now.features) types kind
             (may_stand constant.entry) bytes.now.left }
+        ensures covered { (offset : ℕ) → result ≡ NotCovered offset
+            → has (operator_features self.now.features) simd ≡ true }
     {
         let mut reader = bytes.duplicate();
         let types = self.types();
@@ -263,6 +269,8 @@ impl<'a> LoadedModule<'a> {
     pub fn check_function(&self, function: u32, buffers: &mut BodyBuffers) -> Verdict
         ensures safe { result ≡ Accepted → IsSafeFunction self.now function }
         ensures refused { result ≢ Accepted → result ≢ OutOfMemory → ¬ IsAcceptedFunction self.now function }
+        ensures covered { (offset : ℕ) → result ≡ NotCovered offset
+            → has (operator_features (features_of self.now)) simd ≡ true }
     {
         let Some(body) = self.body_of(function) else {
             return Verdict::Refused(unknown_function(0));
@@ -288,6 +296,8 @@ impl<'a> LoadedModule<'a> {
         ensures safe { result ≡ Accepted → IsSafeExpression self.now expression.now }
         ensures refused { result ≢ Accepted → result ≢ OutOfMemory
             → ¬ IsAcceptedExpression self.now expression.now }
+        ensures covered { (offset : ℕ) → result ≡ NotCovered offset
+            → has (operator_features (features_of self.now)) simd ≡ true }
     {
         let place = expression.place;
         let Some(ty) = expression_type(&self.declared, place) else {
@@ -325,6 +335,18 @@ fn valid_lookup(
     match lookup_lists(alloc, declared) {
         Ok(lists) => ModuleLists::from_declarations(alloc, lists),
         Err(_) => Err(Error::out_of_memory(0)),
+    }
+}
+
+/// What comes of bytes that aren't read as a module for this: the text of a type that isn't there names its index.
+fn unread_module(alloc: Global, error: ReadError) -> Verdict
+    ensures { result ≢ Accepted }
+{
+    match error.cause {
+        Cause::Malformed(Fault::UnknownType(index)) => {
+            Verdict::of_refusal(unknown_type(alloc, index, error.offset))
+        }
+        _ => Verdict::of_read_error(error),
     }
 }
 

@@ -10,7 +10,7 @@ ghost use Rattle.validate_body.specs.Start.{state, stacks_of};
 ghost use Rattle.module_check.specs.Accepted.{AreAcceptedOperators};
 ghost use Rattle.module_check.specs.Begin.{DefinesGroup, DefinesRead};
 ghost use Rattle.module_check.specs.Constant.{may_stand};
-ghost use Rattle.module_check.specs.Refusals.{IsRefusal};
+ghost use Rattle.module_check.specs.Refusals.{IsRefusal, IsInvalid};
 ghost use Rattle.module_check.specs.Safe.{AreSafeOperators};
 ghost use Rattle.module_check.specs.Turns.{IsTurn};
 
@@ -19,8 +19,7 @@ use crate::constant::ConstantPlace;
 use crate::expression::check_constant_operators;
 use crate::verdict::CheckError;
 use binary_operators::{
-    BinaryReader, CanonicalTypes, OperatorLists, ReadError, read_operator, read_operator_into,
-    read_value_type,
+    BinaryReader, CanonicalTypes, OperatorLists, ReadError, read_operator_into, read_value_type,
 };
 use validate_body::OperatorValidator;
 use validate_resources::WasmModuleResources;
@@ -182,7 +181,7 @@ fn check_function_operators<R: WasmModuleResources>(
             break;
         }
         if v.control_stack_height() == 0 {
-            return check_end(reader, canonical, lists);
+            return check_end(reader);
         }
     }
     Err(match refusal {
@@ -262,21 +261,15 @@ fn is_accepted<R: WasmModuleResources>(
     is_accepted_by_check(v, resources, offset, op, refusal)
 }
 
-/// Whether nothing is left behind the operator that closes a body. It refuses an operator that is, or what can't be
-/// read.
-pub(crate) fn check_end(
-    rest: BinaryReader<'_>,
-    canonical: CanonicalTypes<'_>,
-    lists: &mut OperatorLists,
-) -> Result<(), CheckError>
+/// Whether nothing is left behind the operator that closes a body. It refuses any byte that is, without reading it: no
+/// operator makes such a body valid.
+pub(crate) fn check_end(rest: BinaryReader<'_>) -> Result<(), CheckError>
     ensures ended { OnOk result (rest.entry.left ≡ []) }
     ensures refused { OnErr result (rest.entry.left ≢ []) }
+    ensures invalid { IfErr result IsInvalid }
 {
-    let mut reader = rest;
-    if reader.is_at_end() {
+    if rest.is_at_end() {
         return Ok(());
     }
-    let offset = reader.offset();
-    let _op = read_operator(&mut reader, canonical, lists)?;
-    Err(CheckError::refused("operators remaining after end of function", offset))
+    Err(CheckError::refused("operators remaining after end of function", rest.offset()))
 }

@@ -1,15 +1,16 @@
 //! What the check of a body or a constant expression comes to.
 
-ghost use Rattle.std.specs.Prelude.{◌≡◌, ◌≢◌, ◌↔◌, false, IsOk, IfErr};
+ghost use Rattle.std.specs.Prelude.{◌≡◌, ◌≢◌, ◌↔◌, ℕ, true, false, IsOk, IfErr};
 ghost use Rattle.binary_operators.specs.declared.error.Cause.TheVariants.{OutOfMemory as NoMemory};
-ghost use Rattle.module_check.specs.Refusals.{IsRefusal};
-ghost use Rattle.module_check.specs.declared.verdict.Verdict.TheVariants.{Accepted, Refused, OutOfMemory};
+ghost use Rattle.module_check.specs.Refusals.{IsRefusal, IsInvalid};
+ghost use Rattle.module_check.specs.declared.verdict.Verdict.TheVariants.{Accepted, Refused, NotCovered, OutOfMemory};
+ghost use Rattle.validate_types.specs.Features.{has, simd};
 ghost use Rattle.validate_types.specs.declared.error.Error.{Error};
 
 use binary_operators::{Cause, Fault, ReadError};
 use module_rules::Place;
 use std::fmt;
-use validate_types::Error;
+use validate_types::{Error, WasmFeatures};
 
 /// What is checked.
 #[derive(Clone, Copy)]
@@ -67,7 +68,9 @@ pub enum CheckError {
 
 impl CheckError {
     /// A refusal with this text, at the offset.
-    pub(crate) fn refused(message: &'static str, offset: u64) -> CheckError {
+    pub(crate) fn refused(message: &'static str, offset: u64) -> CheckError
+        ensures { IsInvalid result }
+    {
         CheckError::Refused(Error::new(message, offset))
     }
 }
@@ -110,11 +113,27 @@ impl Verdict {
         ensures not_accepted { result ≢ Accepted }
         ensures refused { (e : Error) → result ≡ Refused e → refusal.wants_memory ≡ false }
         ensures memory { result ≢ OutOfMemory → refusal.wants_memory ≡ false }
+        ensures covered { (offset : ℕ) → result ≢ NotCovered offset }
     {
         if refusal.is_out_of_memory() {
             Verdict::OutOfMemory
         } else {
             Verdict::Refused(refusal)
+        }
+    }
+
+    /// The verdict under these proposals: vector operators are refused where theirs is off.
+    pub fn under(self, features: &WasmFeatures) -> Verdict
+        ensures accepted { (result ≡ Accepted) ↔ (self.entry ≡ Accepted) }
+        ensures memory { (result ≡ OutOfMemory) ↔ (self.entry ≡ OutOfMemory) }
+        ensures covered { (offset : ℕ) → result ≡ NotCovered offset → has features.now simd ≡ true }
+        ensures same { has features.now simd ≡ true → result ≡ self.entry }
+    {
+        match self {
+            Verdict::NotCovered(offset) if !features.simd() => {
+                Verdict::Refused(Error::new("SIMD support is not enabled", offset))
+            }
+            verdict => verdict,
         }
     }
 
@@ -126,7 +145,7 @@ impl Verdict {
     {
         let refusal = Error::new(fault.text(), offset);
         match fault {
-            Fault::UnknownType | Fault::TypeIndexTooLarge | Fault::SeveralSupertypes => {
+            Fault::UnknownType(_) | Fault::TypeIndexTooLarge | Fault::SeveralSupertypes => {
                 Verdict::Refused(refusal)
             }
             _ => Verdict::Malformed(refusal),

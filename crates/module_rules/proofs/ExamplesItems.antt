@@ -60,10 +60,10 @@ table_of_64_bits = refl
 table_of_64_bits_without : is_table (without memory64) (a_table true false funcref (from 0) RefNull) ≡ false
 table_of_64_bits_without = refl
 
-most_entries : is_table every (a_table false false funcref (from 10000000) RefNull) ≡ true
+most_entries : is_table every (a_table false false funcref (from 4294967295) RefNull) ≡ true
 most_entries = refl
 
-too_many_entries : is_table every (a_table false false funcref (from 10000001) RefNull) ≡ false
+too_many_entries : is_table every (a_table false false funcref (from 4294967296) RefNull) ≡ false
 too_many_entries = refl
 
 -- `funcref` is of the standard's first version

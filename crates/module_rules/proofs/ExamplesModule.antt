@@ -2,7 +2,7 @@
 -- expected is what the standard's rules say of them.
 use Rattle.std.proofs.Common.{◌≡◌, ℕ, pos, Bool, true, false, List, [], ◌∷◌, replicate, Some, None, refl}
 use Rattle.std.specs.Prelude.{codes}
-use Rattle.validate_types.specs.Features.{bulk_memory}
+use Rattle.validate_types.specs.Features.{has, bulk_memory, bulk_memory_opt}
 use Rattle.validate_types.specs.Refs.{reference}
 use Rattle.validate_types.specs.declared.refs.RefType.{RefType}
 use Rattle.validate_types.specs.declared.types.SubType.{SubType}
@@ -20,7 +20,7 @@ use Rattle.module_rules.specs.Constants.{is_constant_in, expression_type}
 use Rattle.module_rules.specs.Declarations.{Declarations, nothing_declared}
 use Rattle.module_rules.specs.Exported.{Exported}
 use Rattle.module_rules.specs.Exports.{are_valid_exports}
-use Rattle.module_rules.specs.Features.{gc, mutable_global, extended_const}
+use Rattle.module_rules.specs.Features.{gc, mutable_global, extended_const, operator_features}
 use Rattle.module_rules.specs.References.{is_referenced}
 use Rattle.module_rules.specs.Segments.{are_valid_elements, are_valid_data}
 use Rattle.module_rules.specs.Validity.{is_valid_module}
@@ -315,3 +315,12 @@ start_alone = refl
 
 referenced_by_expression : is_referenced (record a_module { expression_functions = 0 ∷ [] }) 0 ≡ true
 referenced_by_expression = refl
+
+-- ---- proposals
+
+-- bulk memory brings its copies and fills, which don't bring the rest of it
+bulk_memory_alone : has (operator_features (record { 0 = bulk_memory })) bulk_memory_opt ≡ true
+bulk_memory_alone = refl
+
+copies_and_fills_alone : has (operator_features (record { 0 = bulk_memory_opt })) bulk_memory ≡ false
+copies_and_fills_alone = refl

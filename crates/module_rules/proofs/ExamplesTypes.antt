@@ -55,6 +55,17 @@ no_group = refl
 longer_group : are_valid_in every (a_group 3 ∷ []) two ≡ false
 longer_group = refl
 
+-- A type names itself only where recursive types are on; an earlier one it may name without them (the proposal of
+-- typed function references).
+itself : are_valid every (final (functions [] (no_null (concrete 0) ∷ [])) ∷ []) ≡ true
+itself = refl
+
+itself_without_gc : are_valid (without gc) (final (functions [] (no_null (concrete 0) ∷ [])) ∷ []) ≡ false
+itself_without_gc = refl
+
+earlier_without_gc : are_valid (without gc) (final (functions [] []) ∷ final (functions [] (no_null (concrete 0) ∷ [])) ∷ []) ≡ true
+earlier_without_gc = refl
+
 -- groups need the proposal, one type alone doesn't
 group_without_gc : are_valid_in (without gc) (a_group 1 ∷ []) (final (functions [] []) ∷ []) ≡ false
 group_without_gc = refl

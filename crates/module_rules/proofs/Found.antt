@@ -36,10 +36,9 @@ module _ (features : ModuleFeatures) (d : Declarations) where
   table-known : (k : ℕ) (t : DeclaredTable) → is_valid_table features d.types d.imports.tables k t ≡ true → table_indices_pass (is_known (length d.types)) t.ty ≡ true
   table-known k t h =
       let a = (and_parts (is_valid_table_type features d.types t) _ h).0 in
-      let b = (and_parts ((is_valid_element_type features d.types t.ty.element_type && is_table_enabled features d.types t) && _) _ a).0 in
-      let c = (and_parts (is_valid_element_type features d.types t.ty.element_type && is_table_enabled features d.types t) _ b).0 in
+      let b = (and_parts (is_valid_element_type features d.types t.ty.element_type && is_table_enabled features d.types t) _ a).0 in
       (and_parts _ (ref_indices_pass (is_known (length d.types)) t.ty.element_type)
-      (and_parts (is_valid_element_type features d.types t.ty.element_type) _ c).0).1
+      (and_parts (is_valid_element_type features d.types t.ty.element_type) _ b).0).1
 
   global-known : (k : ℕ) (g : DeclaredGlobal) → is_valid_global features d.types d.imports.globals k g ≡ true → global_indices_pass (is_known (length d.types)) g.ty ≡ true
   global-known k g h =

@@ -1,8 +1,8 @@
 -- A lookup over the declarations of a valid module is there: it finds no cause of a refusal.
-use Rattle.std.proofs.Common.{◌≡◌, ◌∙◌, ℕ, ◌+◌, ◌-◌, ◌<◌, ◌≤◌, Bool, true, ◌&&◌, ◌||◌, not, List, [], ◌∷◌, ◌++◌, length}
+use Rattle.std.proofs.Common.{◌≡◌, ◌∙◌, ℕ, ◌+◌, ◌-◌, ◌<◌, ◌≤◌, Bool, true, false, ◌&&◌, ◌||◌, not, List, [], ◌∷◌, ◌++◌, length}
 use Rattle.std.proofs.Common.{Option, Some, None, take, drop, refl, ap, sym, arith, nat_le}
 use Rattle.std.specs.Bool.{beq}
-use Rattle.std.specs.Prelude.{is_some, slice_get, slice_range}
+use Rattle.std.specs.Prelude.{is_some, slice_get, slice_range, if◌then◌else◌}
 use Rattle.std.specs.List.{list_all, enumerate_from, zip}
 use Rattle.std.specs.Option.{option_and_then}
 use Rattle.std.proofs.lemmas.Bool.{and_parts, and_from, leb-true, eqb-true, ltb-true, lt-ltb}
@@ -28,9 +28,10 @@ use Rattle.validate_resources.specs.Indices.{option_index_passes, inner_indices_
 use Rattle.validate_resources.specs.Lists.{is_func_type}
 use Rattle.validate_resources.specs.Order.{is_same_kind, is_same_sort, has_supertype_of_its_sort}
 use Rattle.module_rules.specs.Descriptors.{has_valid_descriptor}
+use Rattle.module_rules.specs.Features.{is_on, gc}
 use Rattle.module_rules.specs.Functions.{is_tag_signature}
 use Rattle.module_rules.specs.Matching.{is_inner_below, is_descriptor_below}
-use Rattle.module_rules.specs.Types.{is_earlier, matches_type, matches_supertype, are_valid_groups}
+use Rattle.module_rules.specs.Types.{is_earlier, matches_type, matches_supertype, named_below, are_valid_groups}
 use Rattle.module_rules.specs.declared.features.ModuleFeatures.{ModuleFeatures}
 use Rattle.module_rules.specs.declared.items.RecGroup.{RecGroup}
 
@@ -122,17 +123,25 @@ known-within e n h i k =
     let within : number_of i < n = omega arith in
     lt-ltb (number_of i) n within
 
+-- a group names types up to its end at most
+up-to-the-end : (b : Bool) (e n : ℕ) → n ≤ e → (if b then e else n) ≤ e
+up-to-the-end true e n h = omega arith
+up-to-the-end false e n h = h
+
 -- the types from a group's first on name types that are there
 pub groups-known : (features : ModuleFeatures) (types : List SubType) (first : ℕ) (gs : List RecGroup) → are_valid_groups features types first gs ≡ true → list_all (sub_indices_pass (is_known (length types))) (drop first types) ≡ true
 groups-known features types first [] h =
     let end : length types ≤ first = (let e = eqb-true first (length types) h in omega arith) in
     ap (list_all (sub_indices_pass (is_known (length types)))) (drop_all first types end)
 groups-known features types first (g ∷ gs) h =
-    let a = and_parts ((_ && nat_le (first + g.count) (length types)) && list_all (sub_indices_pass (is_known (first + g.count))) (slice_range types first (first + g.count))) _ h in
+    let a = and_parts ((_ && nat_le (first + g.count) (length types)) && list_all (sub_indices_pass (is_known (named_below features first (first + g.count)))) (slice_range types first (first + g.count))) _ h in
     let b = and_parts (_ && nat_le (first + g.count) (length types)) _ a.0 in
     let within = leb-true (first + g.count) (length types) (and_parts _ (nat_le (first + g.count) (length types)) b.0).1 in
     let count : (first + g.count) - first ≡ g.count = omega arith in
-    let here = all-weaker _ _ (indices-weaker (is_known (first + g.count)) (is_known (length types)) (known-within (first + g.count) (length types) within))
+    let below = named_below features first (first + g.count) in
+    let most : below ≤ first + g.count = up-to-the-end (is_on features gc) (first + g.count) first (omega arith) in
+    let all : below ≤ length types = omega arith in
+    let here = all-weaker _ _ (indices-weaker (is_known below) (is_known (length types)) (known-within below (length types) all))
     (take ((first + g.count) - first) (drop first types)) b.1 in
     let rest = groups-known features types (first + g.count) gs a.1 in
     let split : take ((first + g.count) - first) (drop first types) ++ drop (first + g.count) types ≡ drop first types =

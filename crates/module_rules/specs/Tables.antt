@@ -17,7 +17,7 @@ use Rattle.module_rules.specs.declared.features.ModuleFeatures.{ModuleFeatures}
 use Rattle.module_rules.specs.declared.items.DeclaredTable.{DeclaredTable}
 use Rattle.module_rules.specs.declared.items.TableInit.{TableInit}
 use Rattle.module_rules.specs.declared.items.TableInit.TheVariants.{RefNull, Expr}
-use Rattle.module_rules.specs.declared.limits.TheConstants.{MAX_WASM_TABLES, MAX_WASM_TABLE_ENTRIES}
+use Rattle.module_rules.specs.declared.limits.TheConstants.{MAX_WASM_TABLES}
 
 -- every unshared function
 abbrev pub is_any_function : HeapType → Bool
@@ -43,11 +43,10 @@ is_table_enabled features types t =
     && (not t.ty.shared
     || is_on features shared_everything_threads && is_heap_shared types t.ty.element_type.heap_type)
 
--- how many elements a table has at first is a limit of an implementation too
 abbrev pub is_valid_table_type : ModuleFeatures → List SubType → DeclaredTable → Bool
 is_valid_table_type features types t =
     is_valid_element_type features types t.ty.element_type && is_table_enabled features types t
-    && are_within (table_bound t.ty.table64) t.limits && nat_le t.limits.initial MAX_WASM_TABLE_ENTRIES
+    && are_within (table_bound t.ty.table64) t.limits
 
 -- ---- tables
 

@@ -1,6 +1,6 @@
 -- The types that a module declares (WebAssembly core specification, "Validation: Types").
 use Rattle.std.specs.Prelude.{ℕ, ◌+◌, Bool, true, false, List, [], ◌∷◌, ◌&&◌, ◌||◌, ◌==◌, not, nat_lt}
-use Rattle.std.specs.Prelude.{nat_le, length}
+use Rattle.std.specs.Prelude.{nat_le, length, if◌then◌else◌}
 use Rattle.std.specs.Prelude.{Option, Some, None, is_none, slice_get, slice_range}
 use Rattle.std.specs.List.{list_all, enumerate_from}
 use Rattle.validate_types.specs.Features.{is_type_enabled}
@@ -99,11 +99,17 @@ has_valid_chain types k s =
 
 -- ---- recursion groups (Specification, "Recursive Types")
 
--- it is written as a group only where that proposal is on; its types are there, and name types up to its end
+-- below which index the types of a group may name types: its own, and so themselves, need the proposal that brings
+-- recursive types
+abbrev pub named_below : ModuleFeatures → ℕ → ℕ → ℕ
+named_below features first end = if is_on features gc then end else first
+
+-- it is written as a group only where that proposal is on; its types are there, and name types that they may name
 abbrev pub is_valid_group : ModuleFeatures → List SubType → ℕ → RecGroup → Bool
 is_valid_group features types first g =
     (not g.explicit || is_on features gc) && nat_le (first + g.count) (length types)
-    && list_all (sub_indices_pass (is_known (first + g.count))) (slice_range types first (first + g.count))
+    && list_all (sub_indices_pass (is_known (named_below features first (first + g.count))))
+    (slice_range types first (first + g.count))
 
 -- the groups from this index on, up to the last type
 abbrev pub are_valid_groups : ModuleFeatures → List SubType → ℕ → List RecGroup → Bool

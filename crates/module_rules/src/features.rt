@@ -313,10 +313,14 @@ impl ModuleFeatures {
         self.contains(ModuleFeatures::CUSTOM_PAGE_SIZES)
     }
 
-    /// Those of them that operators ask for.
+    /// Those of them that operators ask for. Bulk memory brings its copies and fills, as in wasmparser's set.
     pub fn operator_features(self) -> WasmFeatures
         ensures { result ≡ operator_features self }
     {
-        WasmFeatures::from_bits_retain(self.0 & 0x1f_ffff)
+        let own = self.0 & 0x1f_ffff;
+        if self.bulk_memory() {
+            return WasmFeatures::from_bits_retain(own | ModuleFeatures::BULK_MEMORY_OPT.0);
+        }
+        WasmFeatures::from_bits_retain(own)
     }
 }

@@ -5,7 +5,7 @@ ghost use Rattle.std.specs.Prelude.{◌≡◌, ◌≤◌, ◌+◌, ℕ, length, 
 ghost use Rattle.std.specs.List.{list_all, enumerate_from};
 ghost use Rattle.validate_resources.specs.Indices.{is_known, sub_indices_pass};
 ghost use Rattle.validate_types.specs.declared.types.SubType.{SubType};
-ghost use Rattle.module_rules.specs.Types.{is_earlier, subtyping_depth, has_valid_chain, is_valid_group, are_valid_groups};
+ghost use Rattle.module_rules.specs.Types.{is_earlier, subtyping_depth, has_valid_chain, named_below, is_valid_group, are_valid_groups};
 ghost use Rattle.module_rules.specs.declared.limits.TheConstants.{MAX_WASM_SUBTYPING_DEPTH};
 
 use crate::features::ModuleFeatures;
@@ -27,6 +27,14 @@ fn have_known_indices(types: &[SubType], end: usize) -> bool
     true
 }
 
+/// Below which index the types of a group may name types, which begins and ends at these: its own need the proposal that
+/// brings recursive types.
+fn named_below(features: ModuleFeatures, first: usize, end: usize) -> usize
+    ensures { result ≡ named_below features first end }
+{
+    if features.gc() { end } else { first }
+}
+
 /// Whether a group that begins at this index is valid.
 pub fn is_valid_group(
     features: ModuleFeatures,
@@ -40,7 +48,7 @@ pub fn is_valid_group(
     let end = first + group.count as usize;
     (!group.explicit || features.gc())
         && end <= types.len()
-        && have_known_indices(&types[first..end], end)
+        && have_known_indices(&types[first..end], named_below(features, first, end))
 }
 
 /// Whether the groups are valid, and all of the types stand in them.

@@ -35,6 +35,7 @@ pub use crate::items::{
 };
 pub use crate::lookup::lookup_lists;
 pub use crate::module::{DeclaredModule, Imports, Place};
+pub use crate::refusals::unknown_type;
 pub use crate::segments::{
     Data, DataCount, DataKind, Element, ElementItems, ElementKind, FunctionItems,
 };

@@ -25,5 +25,5 @@ pub const MAX_WASM_EXPORTS: usize = 1_000_000;
 pub const MAX_WASM_ELEMENT_SEGMENTS: usize = 100_000;
 /// How many data segments a module has at the most.
 pub const MAX_WASM_DATA_SEGMENTS: usize = 100_000;
-/// How many elements a table has at first, and how many items an element segment has, at the most.
+/// How many items an element segment has at the most.
 pub const MAX_WASM_TABLE_ENTRIES: u64 = 10_000_000;

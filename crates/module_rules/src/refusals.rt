@@ -12,7 +12,7 @@ use crate::items::{
 };
 use crate::limits::{
     MAX_WASM_DATA_SEGMENTS, MAX_WASM_ELEMENT_SEGMENTS, MAX_WASM_FUNCTIONS, MAX_WASM_GLOBALS,
-    MAX_WASM_TABLE_ENTRIES, MAX_WASM_TAGS,
+    MAX_WASM_TAGS,
 };
 use crate::memories::{is_valid_memory, max_memories};
 use crate::module::DeclaredModule;
@@ -152,9 +152,6 @@ fn table_type_refusal(features: ModuleFeatures, table: DeclaredTable) -> &'stati
         && table.limits.initial > maximum
     {
         return "size minimum must not be greater than maximum";
-    }
-    if table.limits.initial > MAX_WASM_TABLE_ENTRIES {
-        return "minimum table size is out of bounds";
     }
     if table.ty.shared && !features.shared_everything_threads() {
         return "shared tables require the shared-everything-threads proposal";

@@ -8,7 +8,7 @@ ghost use Rattle.module_rules.specs.Tables.{is_any_function, is_funcref, is_vali
 use crate::features::ModuleFeatures;
 use crate::indices::has_known_ref_index;
 use crate::items::{DeclaredTable, TableInit};
-use crate::limits::{MAX_WASM_TABLE_ENTRIES, MAX_WASM_TABLES};
+use crate::limits::MAX_WASM_TABLES;
 use crate::sizes::are_table_limits;
 use validate_resources::order::is_heap_shared;
 use validate_types::{AbstractHeapType, HeapType, RefType, SubType};
@@ -59,7 +59,6 @@ fn is_valid_table_type(features: ModuleFeatures, types: &[SubType], table: &Decl
     is_valid_element_type(features, types, table.ty.element_type)
         && is_table_enabled(features, types, table)
         && are_table_limits(table.ty.table64, table.limits)
-        && table.limits.initial <= MAX_WASM_TABLE_ENTRIES
 }
 
 /// Whether elements of this type may be so at first.

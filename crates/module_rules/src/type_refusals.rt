@@ -30,26 +30,53 @@ fn offset_of_type(groups: &[RecGroup], index: usize) -> u64 {
     offset
 }
 
-/// Why a group isn't valid.
-fn group_refusal(features: ModuleFeatures, types: usize, end: usize, group: RecGroup) -> Error {
-    let text = if group.explicit && !features.gc() {
-        "rec group usage requires `gc` proposal to be enabled"
-    } else if end > types {
-        "recursion groups have more types than there are"
-    } else {
-        "unknown type: type index out of bounds"
-    };
-    Error::new(text, group.offset)
+/// Why a group that begins at this index isn't valid, whose types are there: the reader lets no type name one behind its
+/// group, so one names its own.
+fn own_type_refusal(alloc: Global, first: usize, group: RecGroup) -> Error {
+    Error::from_text(
+        format!(in alloc;
+            "unknown type {first}: type index out of bounds because the GC proposal is disabled"
+        ),
+        group.offset,
+    )
+}
+
+/// Why a group that begins and ends at these indices isn't valid, of so many types.
+fn group_refusal(
+    alloc: Global,
+    features: ModuleFeatures,
+    types: usize,
+    (first, end): (usize, usize),
+    group: RecGroup,
+) -> Error {
+    if group.explicit && !features.gc() {
+        return Error::new(
+            "rec group usage requires `gc` proposal to be enabled",
+            group.offset,
+        );
+    }
+    if end > types {
+        return Error::new(
+            "recursion groups have more types than there are",
+            group.offset,
+        );
+    }
+    own_type_refusal(alloc, first, group)
 }
 
 /// Why the groups of a module aren't valid, if they aren't.
-fn groups_refusal(features: ModuleFeatures, declared: &DeclaredModule) -> Option<Error> {
+fn groups_refusal(
+    alloc: Global,
+    features: ModuleFeatures,
+    declared: &DeclaredModule,
+) -> Option<Error> {
     let types = declared.types.as_slice();
     let mut first = 0usize;
     for group in declared.groups.as_slice() {
         let end = first.saturating_add(group.count as usize);
         if first > types.len() || !is_valid_group(features, types, first, *group) {
-            return Some(group_refusal(features, types.len(), end, *group));
+            let range = (first, end);
+            return Some(group_refusal(alloc, features, types.len(), range, *group));
         }
         first = end;
     }
@@ -260,7 +287,7 @@ fn descriptors_refusal(declared: &DeclaredModule) -> Error {
 
 /// Why the types of a module aren't valid.
 pub fn types_refusal(alloc: Global, features: ModuleFeatures, declared: &DeclaredModule) -> Error {
-    if let Some(error) = groups_refusal(features, declared) {
+    if let Some(error) = groups_refusal(alloc, features, declared) {
         return error;
     }
     match declared_types_refusal(alloc, features, declared) {

@@ -229,7 +229,7 @@ fn is_accepted_by_check<R: WasmModuleResources>(
     ensures refused { result ≡ false → IfSome refusal.new (λ e. IsRefusal e
         → RowFails (step_body (R.context resources.now) (λ cx. operator cx op.now) (state v.old))) }
 {
-    match v.check_ref(resources, offset, op) {
+    match v.check_slowly(resources, offset, op) {
         Ok(()) => true,
         Err(error) => {
             *refusal = Some(CheckError::Refused(error));

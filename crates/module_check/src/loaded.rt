@@ -9,6 +9,7 @@ ghost use Rattle.module_rules.specs.Lookup.{lookup_lists};
 ghost use Rattle.module_rules.specs.Validity.{IsValidModule, is_valid_module};
 ghost use Rattle.validate_resources.specs.Kept.{declared_lists};
 ghost use Rattle.validate_resources.specs.Lists.{context_of, module_of};
+ghost use Rattle.module_check.specs.declared.verdict.Verdict.TheVariants.{Accepted};
 
 use crate::body::check_body;
 use crate::buffers::BodyBuffers;
@@ -51,7 +52,7 @@ impl<'a> LoadedModule<'a> {
     ghost use Rattle.module_check.specs.Loaded.{IsAcceptedFunction, IsAcceptedExpression};
     ghost use Rattle.module_check.specs.Loaded.{IsSafeFunction, IsSafeExpression};
     ghost use Rattle.module_check.specs.Safe.{IsSafeCode};
-    ghost use Rattle.module_check.specs.declared.verdict.Verdict.TheVariants.{Accepted, Refused, NotCovered, OutOfMemory};
+    ghost use Rattle.module_check.specs.declared.verdict.Verdict.TheVariants.{Refused, NotCovered, OutOfMemory};
     ghost use Rattle.module_rules.specs.Features.{operator_features};
     ghost use Rattle.validate_types.specs.Features.{has, simd};
     ghost use Rattle.validate_types.specs.declared.error.Error.{Error};

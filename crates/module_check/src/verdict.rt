@@ -124,10 +124,10 @@ impl Verdict {
 
     /// The verdict under these proposals: vector operators are refused where theirs is off.
     pub fn under(self, features: &WasmFeatures) -> Verdict
-        ensures accepted { (result ≡ Accepted) ↔ (self.entry ≡ Accepted) }
-        ensures memory { (result ≡ OutOfMemory) ↔ (self.entry ≡ OutOfMemory) }
+        ensures accepted { (result ≡ Accepted) ↔ (self ≡ Accepted) }
+        ensures memory { (result ≡ OutOfMemory) ↔ (self ≡ OutOfMemory) }
         ensures covered { (offset : ℕ) → result ≡ NotCovered offset → has features.now simd ≡ true }
-        ensures same { has features.now simd ≡ true → result ≡ self.entry }
+        ensures same { has features.now simd ≡ true → result ≡ self }
     {
         match self {
             Verdict::NotCovered(offset) if !features.simd() => {

@@ -11,7 +11,10 @@ const FOLDER: &str = "TANSYATTIC_LIB_DIR";
 /// The folder that pkg-config names, if it knows the library.
 fn folder_of_pkg_config() -> Option<PathBuf> {
     let program = env::var_os("PKG_CONFIG").unwrap_or_else(|| "pkg-config".into());
-    let said = Command::new(program).args(["--variable=libdir", "tansyattic"]).output().ok()?;
+    let said = Command::new(program)
+        .args(["--variable=libdir", "tansyattic"])
+        .output()
+        .ok()?;
     let folder = str::from_utf8(&said.stdout).ok()?.trim_end();
     (said.status.success() && !folder.is_empty()).then(|| folder.into())
 }
@@ -37,7 +40,9 @@ fn main() {
         for folder in &folders {
             println!("cargo::error={ARCHIVE} isn't in {}", folder.display());
         }
-        println!("cargo::error=ffi/build in the tree makes it; {FOLDER} names the folder of one that is kept");
+        println!(
+            "cargo::error=ffi/build in the tree makes it; {FOLDER} names the folder of one that is kept"
+        );
         return;
     };
     println!("cargo::rustc-link-search=native={}", folder.display());

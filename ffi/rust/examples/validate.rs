@@ -28,7 +28,13 @@ fn report(name: &str, error: &Error) -> u8 {
 
 /// Prints what a module comes to, and what isn't accepted.
 fn check_module(name: &str, module: &Module) -> u8 {
-    let Summary { accepted, refused, not_covered, error, .. } = module.summary();
+    let Summary {
+        accepted,
+        refused,
+        not_covered,
+        error,
+        ..
+    } = module.summary();
     if error.is_some() {
         for error in module.errors() {
             report(name, &error);

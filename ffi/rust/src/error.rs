@@ -119,7 +119,12 @@ impl Error {
             _ => Item::Module,
         };
         let written = &text[..verdict.text_length.min(text.len())];
-        Some(Error { kind, item, offset: verdict.offset, message: owned_text(written) })
+        Some(Error {
+            kind,
+            item,
+            offset: verdict.offset,
+            message: owned_text(written),
+        })
     }
 }
 

@@ -106,7 +106,11 @@ impl Features {
     /// The set of these bits, or None where one stands for no proposal.
     #[must_use]
     pub const fn from_bits(bits: u32) -> Option<Features> {
-        if bits & !Features::all().0 == 0 { Some(Features(bits)) } else { None }
+        if bits & !Features::all().0 == 0 {
+            Some(Features(bits))
+        } else {
+            None
+        }
     }
 
     /// The set of those of the bits that stand for a proposal.
@@ -118,7 +122,9 @@ impl Features {
     /// The proposal of this name, which is one of scripts and options, as `gc`, or of a constant, as `GC`.
     #[must_use]
     pub fn from_name(name: &str) -> Option<Features> {
-        let named = Features::NAMED.iter().find(|(constant, word, _)| [*constant, *word].contains(&name));
+        let named = Features::NAMED
+            .iter()
+            .find(|(constant, word, _)| [*constant, *word].contains(&name));
         named.map(|(_, _, feature)| *feature)
     }
 
@@ -170,7 +176,11 @@ impl Features {
 
     /// Turns these on or off.
     pub const fn set(&mut self, others: Features, on: bool) {
-        if on { self.insert(others) } else { self.remove(others) }
+        if on {
+            self.insert(others)
+        } else {
+            self.remove(others)
+        }
     }
 }
 
@@ -227,7 +237,9 @@ impl Not for Features {
 impl fmt::Debug for Features {
     fn fmt(&self, f: &mut fmt::Formatter<'_>) -> fmt::Result {
         f.write_str("Features(")?;
-        let on = Features::NAMED.iter().filter(|(_, _, feature)| self.contains(*feature));
+        let on = Features::NAMED
+            .iter()
+            .filter(|(_, _, feature)| self.contains(*feature));
         for (place, (name, _, _)) in on.enumerate() {
             let between = if place == 0 { "" } else { " | " };
             write!(f, "{between}{name}")?;

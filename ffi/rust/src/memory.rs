@@ -25,9 +25,15 @@ fn block_of(start: Option<NonNull<u8>>, size: usize) -> Block {
         // SAFETY: there are as many bytes as the front takes, aligned for a usize, and more behind them.
         Some(start) => unsafe {
             start.cast::<usize>().write(size);
-            Block { found: true, block: start.add(FRONT).as_ptr() }
+            Block {
+                found: true,
+                block: start.add(FRONT).as_ptr(),
+            }
         },
-        None => Block { found: false, block: dangling_mut::<u128>().cast() },
+        None => Block {
+            found: false,
+            block: dangling_mut::<u128>().cast(),
+        },
     }
 }
 
@@ -41,7 +47,10 @@ unsafe fn whole(block: *mut u8) -> (*mut u8, Layout) {
     unsafe {
         let start = block.sub(FRONT);
         let size = start.cast::<usize>().read();
-        (start, Layout::from_size_align_unchecked(size + FRONT, FRONT))
+        (
+            start,
+            Layout::from_size_align_unchecked(size + FRONT, FRONT),
+        )
     }
 }
 
@@ -53,7 +62,12 @@ extern "C" fn rattle_alloc(size: usize, _align: usize) -> Block {
 }
 
 #[unsafe(no_mangle)]
-unsafe extern "C" fn rattle_realloc(block: *mut u8, _kept: usize, size: usize, _align: usize) -> Block {
+unsafe extern "C" fn rattle_realloc(
+    block: *mut u8,
+    _kept: usize,
+    size: usize,
+    _align: usize,
+) -> Block {
     let start = layout(size).and_then(|larger| {
         // SAFETY: the library hands in a block of these functions.
         let (start, layout) = unsafe { whole(block) };

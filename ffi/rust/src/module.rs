@@ -62,7 +62,10 @@ pub struct Summary {
 
 impl<'a> Module<'a> {
     fn none() -> Module<'a> {
-        Module { handle: UnsafeCell::new(Handle::NONE), bytes: PhantomData }
+        Module {
+            handle: UnsafeCell::new(Handle::NONE),
+            bytes: PhantomData,
+        }
     }
 
     /// Reads a module, of which these are all the bytes, and checks what it declares, with the proposals of
@@ -137,13 +140,31 @@ impl<'a> Module<'a> {
 
     /// Checks each body and each constant expression, and sums up.
     pub fn summary(&self) -> Summary {
-        let (Verdict { accepted, refused, not_covered, .. }, error) = verdict_of(|text, out| {
+        let (
+            Verdict {
+                accepted,
+                refused,
+                not_covered,
+                ..
+            },
+            error,
+        ) = verdict_of(|text, out| {
             // SAFETY: as in `parse_with_features`.
             unsafe {
-                raw::tansyattic_raw_validate_module(self.handle.get(), text.as_mut_ptr(), text.len(), out);
+                raw::tansyattic_raw_validate_module(
+                    self.handle.get(),
+                    text.as_mut_ptr(),
+                    text.len(),
+                    out,
+                );
             }
         });
-        Summary { accepted, refused, not_covered, error }
+        Summary {
+            accepted,
+            refused,
+            not_covered,
+            error,
+        }
     }
 
     /// Checks each body and each constant expression. Where they are accepted, the module is valid.
@@ -169,7 +190,10 @@ impl<'a> Module<'a> {
     /// ```
     #[must_use]
     pub fn errors(&self) -> Errors<'_, 'a> {
-        Errors { module: self, position: 0 }
+        Errors {
+            module: self,
+            position: 0,
+        }
     }
 }
 
@@ -194,7 +218,9 @@ impl Drop for Module<'_> {
 
 impl fmt::Debug for Module<'_> {
     fn fmt(&self, f: &mut fmt::Formatter<'_>) -> fmt::Result {
-        f.debug_struct("Module").field("bodies", &self.bodies()).finish_non_exhaustive()
+        f.debug_struct("Module")
+            .field("bodies", &self.bodies())
+            .finish_non_exhaustive()
     }
 }
 
@@ -228,6 +254,8 @@ impl FusedIterator for Errors<'_, '_> {}
 
 impl fmt::Debug for Errors<'_, '_> {
     fn fmt(&self, f: &mut fmt::Formatter<'_>) -> fmt::Result {
-        f.debug_struct("Errors").field("position", &self.position).finish_non_exhaustive()
+        f.debug_struct("Errors")
+            .field("position", &self.position)
+            .finish_non_exhaustive()
     }
 }

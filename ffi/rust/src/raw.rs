@@ -25,7 +25,9 @@ pub(crate) struct Handle {
 }
 
 impl Handle {
-    pub(crate) const NONE: Handle = Handle { at: ptr::null_mut() };
+    pub(crate) const NONE: Handle = Handle {
+        at: ptr::null_mut(),
+    };
 }
 
 // SAFETY: it may be used by calls of any thread, one at a time.

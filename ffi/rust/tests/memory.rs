@@ -24,12 +24,20 @@ struct OneRefused;
 unsafe impl GlobalAlloc for OneRefused {
     unsafe fn alloc(&self, layout: Layout) -> *mut u8 {
         // SAFETY: the caller keeps to what this function asks.
-        if is_met() { unsafe { System.alloc(layout) } } else { std::ptr::null_mut() }
+        if is_met() {
+            unsafe { System.alloc(layout) }
+        } else {
+            std::ptr::null_mut()
+        }
     }
 
     unsafe fn realloc(&self, block: *mut u8, layout: Layout, size: usize) -> *mut u8 {
         // SAFETY: the caller keeps to what this function asks.
-        if is_met() { unsafe { System.realloc(block, layout, size) } } else { std::ptr::null_mut() }
+        if is_met() {
+            unsafe { System.realloc(block, layout, size) }
+        } else {
+            std::ptr::null_mut()
+        }
     }
 
     unsafe fn dealloc(&self, block: *mut u8, layout: Layout) {
@@ -51,8 +59,11 @@ fn refusing<T>(met: usize, call: impl FnOnce() -> T) -> (T, bool) {
 
 /// Whether an error says what another says, its text aside, which may be missing.
 fn is_like(error: &Error, other: &Error) -> bool {
-    let has_text = error.message() == other.message() || error.message() == "no memory for the text";
-    has_text && (error.kind(), error.item(), error.offset()) == (other.kind(), other.item(), other.offset())
+    let has_text =
+        error.message() == other.message() || error.message() == "no memory for the text";
+    has_text
+        && (error.kind(), error.item(), error.offset())
+            == (other.kind(), other.item(), other.offset())
 }
 
 /// Makes a call with each of its requests refused, one at a time, and counts them, and the answers without a text.
@@ -67,7 +78,10 @@ fn refuse_each(call: impl Fn() -> Result<(), Error>) -> (usize, usize) {
         }
         let error = answer.expect_err("a request was refused");
         let is_want = error.kind() == ErrorKind::OutOfMemory;
-        assert!(is_want || ample.as_ref().is_err_and(|other| is_like(&error, other)), "request {met}: {error}");
+        assert!(
+            is_want || ample.as_ref().is_err_and(|other| is_like(&error, other)),
+            "request {met}: {error}"
+        );
         textless += usize::from(!is_want);
     }
     unreachable!()

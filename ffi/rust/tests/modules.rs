@@ -27,14 +27,21 @@ fn parts(error: &Error) -> (ErrorKind, Item, u64, &str) {
     (error.kind(), error.item(), error.offset(), error.message())
 }
 
-const DROPS: (ErrorKind, Item, u64, &str) =
-    (ErrorKind::Invalid, Item::Function(2), 0x24, "type mismatch: expected a type but nothing on stack");
+const DROPS: (ErrorKind, Item, u64, &str) = (
+    ErrorKind::Invalid,
+    Item::Function(2),
+    0x24,
+    "type mismatch: expected a type but nothing on stack",
+);
 const NO_BODY: &str = "the module has no body for this function";
 
 #[test]
 fn is_valid() {
     assert_eq!(validate(&module(b"")), Ok(()));
-    assert_eq!(validate(include_bytes!("../../../examples/sum.wasm")), Ok(()));
+    assert_eq!(
+        validate(include_bytes!("../../../examples/sum.wasm")),
+        Ok(())
+    );
 }
 
 #[test]
@@ -42,10 +49,17 @@ fn is_malformed() {
     for (bytes, offset, text) in [
         (&b""[..], 0, "unexpected end"),
         (b"this is no module", 0, "magic header not detected"),
-        (&include_bytes!("../../../examples/sum.wasm")[..60], 0x1f, "unexpected end"),
+        (
+            &include_bytes!("../../../examples/sum.wasm")[..60],
+            0x1f,
+            "unexpected end",
+        ),
     ] {
         let error = Module::parse(bytes).unwrap_err();
-        assert_eq!(parts(&error), (ErrorKind::Malformed, Item::Module, offset, text));
+        assert_eq!(
+            parts(&error),
+            (ErrorKind::Malformed, Item::Module, offset, text)
+        );
         assert_eq!(validate(bytes), Err(error));
     }
 }
@@ -57,7 +71,15 @@ fn has_each_function_by_its_index() {
     assert_eq!(module.bodies(), 1..3);
     for index in [0, 3, u32::MAX] {
         let error = module.validate_function(index).unwrap_err();
-        assert_eq!(parts(&error), (ErrorKind::NoBody, Item::Function(u64::from(index)), 0, NO_BODY));
+        assert_eq!(
+            parts(&error),
+            (
+                ErrorKind::NoBody,
+                Item::Function(u64::from(index)),
+                0,
+                NO_BODY
+            )
+        );
     }
     assert_eq!(module.validate_function(1), Ok(()));
     assert_eq!(parts(&module.validate_function(2).unwrap_err()), DROPS);
@@ -66,13 +88,33 @@ fn has_each_function_by_its_index() {
 #[test]
 fn has_a_summary() {
     let bytes = imported();
-    let Summary { accepted, refused, not_covered, error, .. } = Module::parse(&bytes).unwrap().summary();
+    let Summary {
+        accepted,
+        refused,
+        not_covered,
+        error,
+        ..
+    } = Module::parse(&bytes).unwrap().summary();
     assert_eq!((accepted, refused, not_covered), (1, 1, 0));
     assert_eq!(parts(&error.unwrap()), DROPS);
     let bytes = vector();
-    let Summary { accepted, refused, not_covered, error, .. } = Module::parse(&bytes).unwrap().summary();
+    let Summary {
+        accepted,
+        refused,
+        not_covered,
+        error,
+        ..
+    } = Module::parse(&bytes).unwrap().summary();
     assert_eq!((accepted, refused, not_covered), (1, 0, 1));
-    assert_eq!(parts(&error.unwrap()), (ErrorKind::NotCovered, Item::Function(0), 0x18, "a vector operator"));
+    assert_eq!(
+        parts(&error.unwrap()),
+        (
+            ErrorKind::NotCovered,
+            Item::Function(0),
+            0x18,
+            "a vector operator"
+        )
+    );
 }
 
 #[test]
@@ -82,7 +124,12 @@ fn has_all_errors() {
     assert_eq!(errors.iter().map(parts).collect::<Vec<_>>(), [DROPS]);
     let bytes = global();
     let errors: Vec<Error> = Module::parse(&bytes).unwrap().errors().collect();
-    let mismatch = (ErrorKind::Invalid, Item::Global(0), 0xf, "type mismatch: expected i32, found i64");
+    let mismatch = (
+        ErrorKind::Invalid,
+        Item::Global(0),
+        0xf,
+        "type mismatch: expected i32, found i64",
+    );
     assert_eq!(errors.iter().map(parts).collect::<Vec<_>>(), [mismatch]);
     // Bodies: one that drops nothing, one that is empty, one that adds nothing.
     let bytes = module(
@@ -103,7 +150,10 @@ fn may_have_a_proposal_off() {
     assert_eq!(Validator::new().validate_all(&bytes), Ok(()));
     let validator = Validator::new_with_features(Features::DEFAULT - Features::SIGN_EXTENSION);
     let error = validator.validate_all(&bytes).unwrap_err();
-    assert_eq!(error.to_string(), "sign extension operations support is not enabled (at offset 0x19)");
+    assert_eq!(
+        error.to_string(),
+        "sign extension operations support is not enabled (at offset 0x19)"
+    );
 }
 
 #[test]

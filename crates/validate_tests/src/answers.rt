@@ -39,17 +39,36 @@ fn add_refusal(text: &mut String, refusal: &Error) -> Result<(), AllocError> {
     text.push_str(refusal.message())
 }
 
+/// Adds the words of an answer, where it is a refusal.
+fn add_words(text: &mut String, answer: &Result<(), Error>) -> Result<(), AllocError> {
+    match answer {
+        Ok(()) => Ok(()),
+        Err(refusal) => {
+            add_refusal(text, refusal)?;
+            text.push_str("; ")
+        }
+    }
+}
+
+/// Adds a line with what can be seen.
+fn add_line<S: Seen>(text: &mut String, seen: &S) -> Result<(), AllocError> {
+    add_seen(text, seen)?;
+    text.push_str("\n")
+}
+
 /// Adds the line of an answer, with what it left.
 pub fn add_answer<S: Seen>(
     text: &mut String,
     answer: &Result<(), Error>,
     seen: &S,
 ) -> Result<(), AllocError> {
-    if let Err(refusal) = answer {
-        add_refusal(text, refusal)?;
-        text.push_str("; ")?;
-    }
-    add_seen(text, seen)?;
+    add_words(text, answer)?;
+    add_line(text, seen)
+}
+
+/// Adds the line of a refusal, no more than its words.
+fn add_refused(text: &mut String, refusal: &Error) -> Result<(), AllocError> {
+    add_refusal(text, refusal)?;
     text.push_str("\n")
 }
 
@@ -60,11 +79,8 @@ fn add_tried<S: Seen>(
     seen: &S,
 ) -> Result<(), AllocError> {
     match answer {
-        Ok(()) => add_answer(text, answer, seen),
-        Err(refusal) => {
-            add_refusal(text, refusal)?;
-            text.push_str("\n")
-        }
+        Ok(()) => add_line(text, seen),
+        Err(refusal) => add_refused(text, refusal),
     }
 }
 
@@ -272,7 +288,7 @@ pub fn add_list<R: WasmModuleResources>(
 fn add_op<'a, R: WasmModuleResources>(
     rt: &impl Abort,
     text: &mut String,
-    function: &mut FuncValidator<'a, '_, R>,
+    function: &mut FuncValidator<'a, 'a, R>,
     pair: (Op<'a>, u64),
 ) -> Result<(), AllocError>
     requires { function.old.present.frames ≢ [] }
@@ -283,14 +299,15 @@ fn add_op<'a, R: WasmModuleResources>(
     expect(rt, function.is_failed() == answer.is_err());
     expect(rt, (function.accepted().len() == count) == answer.is_err());
     expect(rt, has_rising_heights(function));
-    add_answer(text, &answer, function)
+    add_words(text, &answer)?;
+    add_line(text, function)
 }
 
 /// Attempts an operator of a function. It is accepted, or all is as it was before.
 fn add_try_op<'a, R: WasmModuleResources>(
     rt: &(impl Abort + AllocGlobal),
     text: &mut String,
-    function: &mut FuncValidator<'a, '_, R>,
+    function: &mut FuncValidator<'a, 'a, R>,
     pair: (Op<'a>, u64),
 ) -> Result<(), AllocError>
     requires { function.old.present.frames ≢ [] }
@@ -302,14 +319,17 @@ fn add_try_op<'a, R: WasmModuleResources>(
     expect(rt, !function.is_failed());
     expect(rt, (function.accepted().len() == count) == answer.is_err());
     expect(rt, answer.is_ok() || before.is_of(function));
-    add_tried(text, &answer, function)
+    match answer {
+        Ok(()) => add_line(text, function),
+        Err(refusal) => add_refused(text, &refusal),
+    }
 }
 
 /// Adds what the operators answer in a function, each visited or each attempted.
 pub fn add_each_in<'a, R: WasmModuleResources>(
     rt: &(impl Abort + AllocGlobal),
     text: &mut String,
-    function: &mut FuncValidator<'a, '_, R>,
+    function: &mut FuncValidator<'a, 'a, R>,
     ops: &[(Op<'a>, u64)],
     are_attempted: bool,
 ) -> Result<(), AllocError> {

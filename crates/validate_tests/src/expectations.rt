@@ -52,6 +52,12 @@ pub fn read<T: Drop>(rt: &impl Abort, answer: Result<T, ScriptError>) -> Result<
     }
 }
 
+/// The refusal is in these words, at this offset.
+fn expect_told(rt: &impl Abort, refusal: &Error, text: &str, offset: u64) {
+    expect_text(rt, refusal.message(), text, text);
+    expect_same(rt, refusal.offset(), offset);
+}
+
 /// It is refused in these words, at this offset, unless memory was wanting.
 pub fn expect_error<T: Drop>(
     rt: &impl Abort,
@@ -59,18 +65,16 @@ pub fn expect_error<T: Drop>(
     text: &str,
     offset: u64,
 ) -> Result<(), AllocError> {
-    match answer {
-        Ok(_) => {
-            expect(rt, false);
-            Ok(())
-        }
-        Err(refusal) if refusal.is_out_of_memory() => Err(AllocError),
-        Err(refusal) => {
-            expect_text(rt, refusal.message(), text, text);
-            expect_same(rt, refusal.offset(), offset);
-            Ok(())
-        }
+    let refusal = answer.err();
+    expect(rt, refusal.is_some());
+    let Some(refusal) = refusal else {
+        return Ok(());
+    };
+    if refusal.is_out_of_memory() {
+        return Err(AllocError);
     }
+    expect_told(rt, &refusal, text, offset);
+    Ok(())
 }
 
 /// It is refused, for this reason and in these words, unless memory was wanting.

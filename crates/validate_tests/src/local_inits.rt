@@ -30,24 +30,27 @@ fn locals_that_begin_unset(rt: HostRuntime) -> Result<(), OutOfMemory> {
     Ok(())
 }
 
-/// What was set is answered by the height, and goes and comes back by it.
-fn expect_order(rt: &impl Abort, inits: &mut LocalInits) -> Result<(), OutOfMemory> {
-    inits.set_init(1)?;
-    inits.set_init(0)?;
-    expect_same(rt, inits.set_since(0), [1, 0].as_slice());
-    expect(rt, inits.room() >= 2);
-    inits.drop_ctrl(1);
-    expect_same(rt, inits.set_since(0), [1].as_slice());
-    inits.put_back(&[0]);
-    expect_same(rt, inits.set_since(1), [0].as_slice());
-    Ok(())
-}
-
+/// What was set is answered by the height, and goes by it.
 #[test]
 fn locals_that_are_set_in_order(rt: HostRuntime) -> Result<(), OutOfMemory> {
     let mut inits = LocalInits::new(rt.alloc());
     inits.define_locals(2, FUNC)?;
-    expect_order(&rt, &mut inits)
+    inits.set_init(1)?;
+    inits.set_init(0)?;
+    expect_same(&rt, inits.set_since(0), [1, 0].as_slice());
+    expect(&rt, inits.room() >= 2);
+    inits.drop_ctrl(1);
+    expect_same(&rt, inits.set_since(0), [1].as_slice());
+    Ok(())
+}
+
+/// Where nothing was unset, nothing is put back.
+#[test]
+fn nothing_is_put_back(rt: HostRuntime) {
+    let mut inits = LocalInits::new(rt.alloc());
+    inits.put_back(&[]);
+    expect(&rt, inits.is_empty());
+    expect_same(&rt, inits.height(), 0);
 }
 
 /// Parameters are set from the start, whatever their types.

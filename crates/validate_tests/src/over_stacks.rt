@@ -100,8 +100,9 @@ fn declare<R: WasmModuleResources>(
     let mut canonical = group.ty;
     ample(rt, lists.check_value_type(&mut canonical, &features, 0))?;
     match stacks.define_locals(group.count, canonical) {
-        Ok(is_within) => {
-            expect(rt, is_within);
+        Ok(true) => Ok(()),
+        Ok(false) => {
+            expect(rt, false);
             Ok(())
         }
         Err(_) => Err(AllocError),

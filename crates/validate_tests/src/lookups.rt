@@ -65,8 +65,10 @@ fn expect_items<R: WasmModuleResources>(rt: &impl Abort, lists: &R) {
 
 /// The type of a function, by its id.
 fn type_of_function<R: WasmModuleResources>(lists: &R, function: u32) -> Option<&SubType> {
-    let id = lists.type_id_of_function(function)?;
-    Some(lists.sub_type_at_id(id))
+    match lists.type_id_of_function(function) {
+        Some(id) => Some(lists.sub_type_at_id(id)),
+        None => None,
+    }
 }
 
 /// What is known of the two functions, and of their types.

@@ -98,7 +98,10 @@ fn declare<R: WasmModuleResources>(
 {
     let features = stacks.features();
     let mut canonical = group.ty;
-    ample(rt, lists.check_value_type(&mut canonical, &features, 0))?;
+    match lists.check_value_type(&mut canonical, &features, 0) {
+        Ok(()) => {}
+        Err(refusal) => return ample(rt, Err(refusal)),
+    }
     match stacks.define_locals(group.count, canonical) {
         Ok(true) => Ok(()),
         Ok(false) => {

@@ -288,7 +288,7 @@ pub fn add_list<R: WasmModuleResources>(
 fn add_op<'a, R: WasmModuleResources>(
     rt: &impl Abort,
     text: &mut String,
-    function: &mut FuncValidator<'a, 'a, R>,
+    function: &mut FuncValidator<'a, '_, R>,
     pair: (Op<'a>, u64),
 ) -> Result<(), AllocError>
     requires { function.old.present.frames ≢ [] }
@@ -307,7 +307,7 @@ fn add_op<'a, R: WasmModuleResources>(
 fn add_try_op<'a, R: WasmModuleResources>(
     rt: &(impl Abort + AllocGlobal),
     text: &mut String,
-    function: &mut FuncValidator<'a, 'a, R>,
+    function: &mut FuncValidator<'a, '_, R>,
     pair: (Op<'a>, u64),
 ) -> Result<(), AllocError>
     requires { function.old.present.frames ≢ [] }
@@ -329,7 +329,7 @@ fn add_try_op<'a, R: WasmModuleResources>(
 pub fn add_each_in<'a, R: WasmModuleResources>(
     rt: &(impl Abort + AllocGlobal),
     text: &mut String,
-    function: &mut FuncValidator<'a, 'a, R>,
+    function: &mut FuncValidator<'a, '_, R>,
     ops: &[(Op<'a>, u64)],
     are_attempted: bool,
 ) -> Result<(), AllocError> {

@@ -23,8 +23,8 @@ struct OneRefused;
 // SAFETY: what is met is met by the allocator of the system, and a null pointer says that a request is refused.
 unsafe impl GlobalAlloc for OneRefused {
     unsafe fn alloc(&self, layout: Layout) -> *mut u8 {
-        // SAFETY: the caller keeps to what this function asks.
         if is_met() {
+            // SAFETY: the caller keeps to what this function asks.
             unsafe { System.alloc(layout) }
         } else {
             std::ptr::null_mut()
@@ -32,8 +32,8 @@ unsafe impl GlobalAlloc for OneRefused {
     }
 
     unsafe fn realloc(&self, block: *mut u8, layout: Layout, size: usize) -> *mut u8 {
-        // SAFETY: the caller keeps to what this function asks.
         if is_met() {
+            // SAFETY: the caller keeps to what this function asks.
             unsafe { System.realloc(block, layout, size) }
         } else {
             std::ptr::null_mut()

@@ -1,34 +1,46 @@
 /* Whether a binary WebAssembly module is valid: what it declares, each function's body and each constant expression
- * (docs/MODULES.md).
+ * (docs/EMBEDDING.md). And whether the next operator of a function is: operator by operator, with what lies on its
+ * stacks.
  *
  *     struct tansyattic_module module = TANSYATTIC_NONE;
  *     struct tansyattic_verdict verdict;
  *     uint8_t text[200];
- *     tansyattic_load(bytes, length, TANSYATTIC_FEATURES_ALL, &module, text, sizeof text, &verdict);
+ *     tansyattic_load(bytes, length, TANSYATTIC_FEATURES_DEFAULT, &module, text, sizeof text, &verdict);
  *     if (verdict.status == TANSYATTIC_VALID)
  *         tansyattic_validate_function(&module, 7, text, sizeof text, &verdict);
  *     tansyattic_free(&module);
+ *
+ * A body that is being written, over a module that has no bodies yet:
+ *
+ *     struct tansyattic_function function = TANSYATTIC_NONE;
+ *     size_t taken;
+ *     tansyattic_declare(bytes, length, TANSYATTIC_FEATURES_DEFAULT, &module, text, sizeof text, &verdict);
+ *     tansyattic_begin(&module, 3, &function, text, sizeof text, &verdict);
+ *     if (tansyattic_try_op(&function, op, size, offset, &taken, text, sizeof text, &verdict) == TANSYATTIC_VALID)
+ *         ..append the operator, which has `taken` bytes, to the body
+ *     tansyattic_free_function(&function);
  *
  * What the library was proved for holds where the caller keeps to this, which nothing tests:
  * - `bytes` points at `length` bytes, which nothing writes during the call; those of a module that is loaded stay,
  *   unwritten, until it is freed;
  * - `text` points at `text_length` bytes, and `out` at one verdict: writable, apart from each other and from `bytes`,
- *   and used by nothing else during the call; what stands in them before doesn't matter. `out` isn't null, nor are
- *   `bytes` and `text` where their length isn't 0;
- * - a `struct tansyattic_module` begins as TANSYATTIC_NONE, and the library alone reads and changes it from then on; it
- *   may be moved, but isn't copied;
+ *   and used by nothing else during the call; what stands in them before doesn't matter. The same holds of whatever
+ *   else a call writes through a pointer (`taken`, `first`, `behind`, a type, a frame). None of these pointers is
+ *   null, but for `bytes` and `text` where their length is 0;
+ * - a `struct tansyattic_module` and a `struct tansyattic_function` begin as TANSYATTIC_NONE, and the library alone
+ *   reads and changes them from then on; they may be moved, but aren't copied;
  * - the three functions at the end mean what is said of them (memory.c has them over malloc, realloc and free);
  * - no call is made from a signal handler, or from the forked child of a process with threads.
  *
- * Threads: a `struct tansyattic_module` is used by one call at a time, from any thread. tansyattic_share gives a second
- * one for another thread, over the same module, which nothing changes; it is freed with the last of them. What a call
- * uses beside is its own, so several threads may make calls at once, where the three functions allow it, as those of
- * memory.c do.
+ * Threads: a `struct tansyattic_module` is used by one call at a time, from any thread, and so is a `struct
+ * tansyattic_function`. tansyattic_share gives a second module for another thread, over the same one, which nothing
+ * changes; it is freed with the last of them and the last function that stands on it. What a call uses beside is its
+ * own, so several threads may make calls at once, where the three functions allow it, as those of memory.c do.
  *
- * A call returns on all bytes, and gives back all its memory but what a module keeps. None stops the program or
- * unwinds: that nothing goes wrong inside is proved, and not tested as it runs, so where a condition above is broken,
- * or the toolchain has a bug, what a call does is undefined. The archive is built for Linux on x86-64-v2, as position
- * independent code; it has no state of its own, and calls memcpy, memmove and memset.
+ * A call returns on all bytes, and gives back all its memory but what a module or a function keeps. None stops the
+ * program or unwinds: that nothing goes wrong inside is proved, and not tested as it runs, so where a condition above
+ * is broken, or the toolchain has a bug, what a call does is undefined. The archive is built for Linux on x86-64-v2,
+ * as position independent code; it has no state of its own, and calls memcpy, memmove and memset.
  */
 #ifndef TANSYATTIC_H
 #define TANSYATTIC_H
@@ -41,19 +53,21 @@ extern "C" {
 
 /* The version of this header. That of the library is tansyattic_version(). */
 #define TANSYATTIC_VERSION_MAJOR 0
-#define TANSYATTIC_VERSION_MINOR 1
+#define TANSYATTIC_VERSION_MINOR 2
 #define TANSYATTIC_VERSION_PATCH 0
 #define TANSYATTIC_VERSION \
     (TANSYATTIC_VERSION_MAJOR * 65536 + TANSYATTIC_VERSION_MINOR * 256 + TANSYATTIC_VERSION_PATCH)
 
 enum tansyattic_status {
-    TANSYATTIC_VALID = 0,         /* the module is valid; of one body: what the module declares, and it */
-    TANSYATTIC_INVALID = 1,       /* what it declares isn't, or a body or a constant expression */
-    TANSYATTIC_MALFORMED = 2,     /* the bytes aren't those of a module */
+    TANSYATTIC_VALID = 0,         /* the module is valid; of one body: what the module declares, and it; of an operator:
+                                   * it is accepted */
+    TANSYATTIC_INVALID = 1,       /* what it declares isn't, or a body, a constant expression or the operator */
+    TANSYATTIC_MALFORMED = 2,     /* the bytes aren't those of a module, or begin with no operator */
     TANSYATTIC_OUT_OF_MEMORY = 3, /* there was no memory for the check: nothing is known */
     TANSYATTIC_NOT_COVERED = 4,   /* nothing is refused, and there is a vector operator, which isn't covered */
-    TANSYATTIC_NO_BODY = 5,       /* the module has no body for the function: it is imported, or isn't there */
-    TANSYATTIC_NOT_LOADED = 6     /* there is no module */
+    TANSYATTIC_NO_BODY = 5,       /* the module has no body for the function: it is imported, isn't there, or was
+                                   * declared without bodies */
+    TANSYATTIC_NOT_LOADED = 6     /* there is no module, or no function */
 };
 
 enum tansyattic_kind {
@@ -63,11 +77,114 @@ enum tansyattic_kind {
     TANSYATTIC_ELEMENT_OFFSET = 3, /* that of the offset of an element segment */
     TANSYATTIC_ELEMENT = 4,        /* that of an item of one */
     TANSYATTIC_DATA_OFFSET = 5,    /* that of the offset of a data segment */
-    TANSYATTIC_MODULE = 6          /* the module as a whole */
+    TANSYATTIC_MODULE = 6          /* the module as a whole; and of a call on a function */
 };
 
-/* A set of proposals: those that are on. Other bits than these say nothing. BULK_MEMORY brings what BULK_MEMORY_OPT lets
- * in alone, memory.copy and memory.fill. */
+/* Why an operator is refused: a number for each reason, beside the text. Numbers are only added, within a major
+ * version. NONE where no rule of an operator refused: the bytes, a declaration, a look-up or a lack of memory did. */
+enum tansyattic_reason {
+    TANSYATTIC_REASON_NONE = 0,
+    TANSYATTIC_REASON_OUT_OF_MEMORY = 1,
+    TANSYATTIC_REASON_CLOSED = 2,
+    TANSYATTIC_REASON_ACQUIRE_RELEASE_OFF = 3,
+    TANSYATTIC_REASON_MULTIBYTE_ARRAYS_OFF = 4,
+    TANSYATTIC_REASON_REFERENCE_OFF = 5,
+    TANSYATTIC_REASON_MULTI_VALUE_OFF = 6,
+    TANSYATTIC_REASON_NOTHING_FOUND = 7,
+    TANSYATTIC_REASON_MISMATCH = 8,
+    TANSYATTIC_REASON_NO_REFERENCE = 9,
+    TANSYATTIC_REASON_NO_DECLARED_REFERENCE = 10,
+    TANSYATTIC_REASON_NO_CONTINUATION_REFERENCE = 11,
+    TANSYATTIC_REASON_NOT_BELOW = 12,
+    TANSYATTIC_REASON_OTHER_SHAREDNESS = 13,
+    TANSYATTIC_REASON_OPERANDS_LEFT = 14,
+    TANSYATTIC_REASON_SELECT_OF_REFERENCES = 15,
+    TANSYATTIC_REASON_SELECT_OF_TWO_TYPES = 16,
+    TANSYATTIC_REASON_SELECT_ARITY = 17,
+    TANSYATTIC_REASON_UNKNOWN_LOCAL = 18,
+    TANSYATTIC_REASON_UNINITIALIZED_LOCAL = 19,
+    TANSYATTIC_REASON_UNKNOWN_LABEL = 20,
+    TANSYATTIC_REASON_UNKNOWN_TYPE = 21,
+    TANSYATTIC_REASON_UNKNOWN_FUNCTION = 22,
+    TANSYATTIC_REASON_UNKNOWN_GLOBAL = 23,
+    TANSYATTIC_REASON_UNKNOWN_TABLE = 24,
+    TANSYATTIC_REASON_UNKNOWN_MEMORY = 25,
+    TANSYATTIC_REASON_UNKNOWN_TAG = 26,
+    TANSYATTIC_REASON_UNKNOWN_ELEMENTS = 27,
+    TANSYATTIC_REASON_UNKNOWN_DATA = 28,
+    TANSYATTIC_REASON_NO_DATA_COUNT = 29,
+    TANSYATTIC_REASON_UNKNOWN_FIELD = 30,
+    TANSYATTIC_REASON_TYPE_INDEX_TOO_LARGE = 31,
+    TANSYATTIC_REASON_NO_FUNCTION_TYPE = 32,
+    TANSYATTIC_REASON_NO_STRUCT_TYPE = 33,
+    TANSYATTIC_REASON_NO_ARRAY_TYPE = 34,
+    TANSYATTIC_REASON_NO_CONTINUATION_TYPE = 35,
+    TANSYATTIC_REASON_NO_CONTINUATION = 36,
+    TANSYATTIC_REASON_NO_DESCRIPTOR = 37,
+    TANSYATTIC_REASON_TARGET_WITHOUT_DESCRIPTOR = 38,
+    TANSYATTIC_REASON_WANTS_DESCRIPTOR = 39,
+    TANSYATTIC_REASON_NOT_DESCRIBED = 40,
+    TANSYATTIC_REASON_UNEXPECTED_HEAP_TYPE = 41,
+    TANSYATTIC_REASON_TAG_WITH_RESULTS = 42,
+    TANSYATTIC_REASON_UNDECLARED_FUNCTION = 43,
+    TANSYATTIC_REASON_UNSHARED_FUNCTION = 44,
+    TANSYATTIC_REASON_UNSHARED_GLOBAL = 45,
+    TANSYATTIC_REASON_UNSHARED_TABLE = 46,
+    TANSYATTIC_REASON_UNSHARED_STRUCT = 47,
+    TANSYATTIC_REASON_UNSHARED_ARRAY = 48,
+    TANSYATTIC_REASON_UNSHARED_CONTINUATION = 49,
+    TANSYATTIC_REASON_IMMUTABLE_GLOBAL = 50,
+    TANSYATTIC_REASON_IMMUTABLE_FIELD = 51,
+    TANSYATTIC_REASON_IMMUTABLE_ARRAY = 52,
+    TANSYATTIC_REASON_FIELD_PACKING = 53,
+    TANSYATTIC_REASON_ARRAY_PACKING = 54,
+    TANSYATTIC_REASON_NOT_DEFAULTABLE = 55,
+    TANSYATTIC_REASON_NOT_ALLOWED = 56,
+    TANSYATTIC_REASON_ALIGNED_MORE = 57,
+    TANSYATTIC_REASON_ALIGNED_LESS = 58,
+    TANSYATTIC_REASON_ATOMIC_ARRAY = 59,
+    TANSYATTIC_REASON_OFFSET_BEYOND = 60,
+    TANSYATTIC_REASON_NO_BYTES = 61,
+    TANSYATTIC_REASON_NO_NEW_DATA = 62,
+    TANSYATTIC_REASON_NO_INIT_DATA = 63,
+    TANSYATTIC_REASON_NO_REFERENCES = 64,
+    TANSYATTIC_REASON_OTHER_ELEMENTS = 65,
+    TANSYATTIC_REASON_OTHER_STORAGE = 66,
+    TANSYATTIC_REASON_OTHER_TABLE = 67,
+    TANSYATTIC_REASON_NO_FUNCTION_TABLE = 68,
+    TANSYATTIC_REASON_CAST_TO_CONTINUATION = 69,
+    TANSYATTIC_REASON_OTHER_HIERARCHY = 70,
+    TANSYATTIC_REASON_CAST_NOT_BELOW = 71,
+    TANSYATTIC_REASON_CAST_LABEL_EMPTY = 72,
+    TANSYATTIC_REASON_CAST_FAIL_LABEL_EMPTY = 73,
+    TANSYATTIC_REASON_CAST_LABEL = 74,
+    TANSYATTIC_REASON_CAST_FAIL_LABEL = 75,
+    TANSYATTIC_REASON_NOT_EXACT = 76,
+    TANSYATTIC_REASON_ELSE_OUTSIDE_IF = 77,
+    TANSYATTIC_REASON_CATCH_OUTSIDE_TRY = 78,
+    TANSYATTIC_REASON_CATCH_ALL_OUTSIDE_TRY = 79,
+    TANSYATTIC_REASON_DELEGATE_OUTSIDE_TRY = 80,
+    TANSYATTIC_REASON_RETHROW_OUTSIDE_CATCH = 81,
+    TANSYATTIC_REASON_TABLE_ARITY = 82,
+    TANSYATTIC_REASON_TABLE_END = 83,
+    TANSYATTIC_REASON_NON_NULL_LABEL_EMPTY = 84,
+    TANSYATTIC_REASON_NON_NULL_LABEL = 85,
+    TANSYATTIC_REASON_OTHER_RESULTS = 86,
+    TANSYATTIC_REASON_CLAUSE_ARITY = 87,
+    TANSYATTIC_REASON_CLAUSE_TYPE = 88,
+    TANSYATTIC_REASON_CLAUSE_REFERENCE = 89,
+    TANSYATTIC_REASON_OTHER_ARGUMENTS = 90,
+    TANSYATTIC_REASON_OTHER_CONTINUATIONS = 91,
+    TANSYATTIC_REASON_OTHER_CONTINUATION = 92,
+    TANSYATTIC_REASON_TAG_WITH_PARAMETERS = 93,
+    TANSYATTIC_REASON_WANTS_CONTINUATION = 94,
+    TANSYATTIC_REASON_LABEL_WITHOUT_CONTINUATION = 95,
+    TANSYATTIC_REASON_OTHER_TAG = 96,
+    TANSYATTIC_REASON_OTHER_SWITCH_TAG = 97
+};
+
+/* A set of proposals: those that are on. Other bits than these say nothing. BULK_MEMORY brings what BULK_MEMORY_OPT
+ * lets in alone, memory.copy and memory.fill. */
 #define TANSYATTIC_FEATURE_MULTI_VALUE               (UINT32_C(1) << 0)
 #define TANSYATTIC_FEATURE_FLOATS                    (UINT32_C(1) << 1)
 #define TANSYATTIC_FEATURE_SIMD                      (UINT32_C(1) << 2)
@@ -104,14 +221,16 @@ enum tansyattic_kind {
      TANSYATTIC_FEATURE_FUNCTION_REFERENCES | TANSYATTIC_FEATURE_GC | TANSYATTIC_FEATURE_MUTABLE_GLOBAL | \
      TANSYATTIC_FEATURE_MEMORY64 | TANSYATTIC_FEATURE_MULTI_MEMORY | TANSYATTIC_FEATURE_EXTENDED_CONST)
 
-/* What a check comes to. What is reported is the first of those that weigh most: want of memory, then what is
+/* What a check comes to. What is reported is the first of those that weigh most: out of memory, then what is
  * malformed, then what is invalid, then what isn't covered. Of a valid module nothing is. */
 struct tansyattic_verdict {
     uint32_t status;              /* a tansyattic_status */
     uint32_t kind;                /* what is reported: a tansyattic_kind */
+    uint32_t reason;              /* why, where an operator's rule refuses: a tansyattic_reason */
     uint64_t index;               /* the index of the function, table, global or segment */
-    uint64_t offset;              /* where, from the first byte of the module */
-    size_t text_length;           /* so many bytes of the text were written */
+    uint64_t offset;              /* where, from the first byte of the module; of a call on a function, as it counts */
+    size_t text_length;           /* so many bytes of the text were written, */
+    size_t text_needed;           /* of so many that it has */
     uint64_t accepted;            /* so many bodies and constant expressions are accepted, */
     uint64_t refused;             /* so many refused (what the module declares counts for one), */
     uint64_t not_covered;         /* and so many not covered */
@@ -121,7 +240,75 @@ struct tansyattic_verdict {
 struct tansyattic_module {
     void *at; /* the library's own: null for none */
 };
+
+/* A function, or a constant expression, that is being validated operator by operator, or none. It keeps a share of the
+ * module that it stands on. */
+struct tansyattic_function {
+    void *at; /* the library's own: null for none */
+};
 #define TANSYATTIC_NONE {NULL}
+
+/* A value type. An abstract heap type is named by its byte in the binary format. */
+enum tansyattic_type_code {
+    TANSYATTIC_TYPE_UNKNOWN = 0,    /* of an operand in dead code: its type isn't known */
+    TANSYATTIC_TYPE_INDEX = 1,      /* a reference to the declared type at `index` */
+    TANSYATTIC_TYPE_CONT = 0x68,    /* a reference to any continuation, and so on down to NOCONT */
+    TANSYATTIC_TYPE_EXN = 0x69,
+    TANSYATTIC_TYPE_ARRAY = 0x6a,
+    TANSYATTIC_TYPE_STRUCT = 0x6b,
+    TANSYATTIC_TYPE_I31 = 0x6c,
+    TANSYATTIC_TYPE_EQ = 0x6d,
+    TANSYATTIC_TYPE_ANY = 0x6e,
+    TANSYATTIC_TYPE_EXTERN = 0x6f,
+    TANSYATTIC_TYPE_FUNC = 0x70,
+    TANSYATTIC_TYPE_NONE = 0x71,
+    TANSYATTIC_TYPE_NOEXTERN = 0x72,
+    TANSYATTIC_TYPE_NOFUNC = 0x73,
+    TANSYATTIC_TYPE_NOEXN = 0x74,
+    TANSYATTIC_TYPE_NOCONT = 0x75,
+    TANSYATTIC_TYPE_V128 = 0x7b,
+    TANSYATTIC_TYPE_F64 = 0x7c,
+    TANSYATTIC_TYPE_F32 = 0x7d,
+    TANSYATTIC_TYPE_I64 = 0x7e,
+    TANSYATTIC_TYPE_I32 = 0x7f
+};
+
+struct tansyattic_type {
+    uint32_t code;    /* a tansyattic_type_code */
+    uint32_t index;   /* with INDEX: which type. Of equal types the library shows the first */
+    uint8_t nullable; /* of a reference: whether null is one of its values, */
+    uint8_t shared;   /* whether it is to the shared copy of the abstract type, */
+    uint8_t exact;    /* and, with INDEX, whether types declared below it are left out. Each is 0 or 1: any other than 0
+                       * is read as 1, and one that isn't of this type is not read, and shown as 0 */
+    uint8_t reserved; /* not read, and shown as 0 */
+};
+
+/* What opened a frame, or which part of it is open. */
+enum tansyattic_frame_kind {
+    TANSYATTIC_FRAME_BLOCK = 0, /* `block`, and the function itself */
+    TANSYATTIC_FRAME_IF = 1,
+    TANSYATTIC_FRAME_ELSE = 2,
+    TANSYATTIC_FRAME_LOOP = 3,
+    TANSYATTIC_FRAME_TRY_TABLE = 4,
+    TANSYATTIC_FRAME_LEGACY_TRY = 5,
+    TANSYATTIC_FRAME_LEGACY_CATCH = 6,
+    TANSYATTIC_FRAME_LEGACY_CATCH_ALL = 7
+};
+
+enum tansyattic_block_kind {
+    TANSYATTIC_BLOCK_EMPTY = 0,   /* it takes and gives nothing */
+    TANSYATTIC_BLOCK_VALUE = 1,   /* it gives a value of `block_type` */
+    TANSYATTIC_BLOCK_FUNCTION = 2 /* it takes and gives what the function type at `block_index` does */
+};
+
+struct tansyattic_frame {
+    uint64_t height;                   /* so many operands lie below its own */
+    uint32_t kind;                     /* a tansyattic_frame_kind */
+    uint32_t block_kind;               /* a tansyattic_block_kind */
+    uint32_t block_index;              /* 0 where it isn't of BLOCK_FUNCTION */
+    uint32_t unreachable;              /* 1 where its code is dead from here on, else 0 */
+    struct tansyattic_type block_type; /* all 0 where it isn't of BLOCK_VALUE */
+};
 
 /* Each call below that has a text writes that of what is reported: UTF-8 with no zero behind it, cut where there is no
  * more room (100 bytes hold most texts). It answers the status of the verdict that it writes. */
@@ -135,6 +322,15 @@ static inline uint32_t tansyattic_validate(const uint8_t *bytes, size_t length, 
 static inline uint32_t tansyattic_load(const uint8_t *bytes, size_t length, uint32_t features,
                                        struct tansyattic_module *module, uint8_t *text, size_t text_length,
                                        struct tansyattic_verdict *out);
+
+/* Reads the sections of a module that has no bodies yet: one that ends before its code section, or has none. What it
+ * declares is checked as by tansyattic_load, but for two things, which are left to that: that there are as many bodies
+ * as functions of its own, and as many data segments as its data count section says. Functions can be begun over it,
+ * and no function has a body: tansyattic_validate_function, _module and _next answer TANSYATTIC_NO_BODY. Else as
+ * tansyattic_load. */
+static inline uint32_t tansyattic_declare(const uint8_t *bytes, size_t length, uint32_t features,
+                                          struct tansyattic_module *module, uint8_t *text, size_t text_length,
+                                          struct tansyattic_verdict *out);
 
 /* Makes `other` the same module, and frees one that it was before. Answers TANSYATTIC_VALID, TANSYATTIC_NOT_LOADED or
  * TANSYATTIC_OUT_OF_MEMORY; then `other` stays as it was. */
@@ -159,10 +355,87 @@ static inline uint32_t tansyattic_validate_module(struct tansyattic_module *modu
                                                   size_t text_length, struct tansyattic_verdict *out);
 
 /* Checks them one after another, the constant expressions first, from the one at `*position` on, up to one that isn't
- * accepted, which it reports, and behind which it leaves `*position`. Call by call, from 0 on, it reports each, until
- * it answers TANSYATTIC_VALID: then none is left. */
+ * accepted, which it reports, and behind which it leaves `*position`. Call by call, from 0 on, it reports each: a
+ * loop ends at TANSYATTIC_VALID, for none is left, and at a status above TANSYATTIC_NOT_COVERED, for there is no module,
+ * or it has no bodies. */
 static inline uint32_t tansyattic_validate_next(struct tansyattic_module *module, size_t *position,
                                                 uint8_t *text, size_t text_length, struct tansyattic_verdict *out);
+
+/* Functions, operator by operator
+ *
+ * A function begins with one open frame, that of its type, and its parameters as locals. tansyattic_op and
+ * tansyattic_try_op take one operator at a time, in the standard's binary format; the `end` of the outermost frame
+ * closes the function, and tansyattic_finish says whether it is whole: then it is type safe. No order of calls does
+ * harm: what may not come then is refused. What the calls answer, and what they leave, is proved (docs/CONTRACTS.md).
+ *
+ * Where there is no function, or no module, the status is TANSYATTIC_NOT_LOADED. `offset` is yours: it is the
+ * operator's place as refusals tell it, and nothing else is done with it. */
+
+/* Begins a function of the type at this index, without locals but for its parameters. Where the status is
+ * TANSYATTIC_VALID, `function` is it, and one that it was before is freed; else it stays as it was. */
+static inline uint32_t tansyattic_begin(struct tansyattic_module *module, uint32_t type_index,
+                                        struct tansyattic_function *function, uint8_t *text, size_t text_length,
+                                        struct tansyattic_verdict *out);
+
+/* The same of a constant expression that gives a value of this type. As it stands in no place of the module, whether
+ * its operators are constant isn't looked at: any may come. */
+static inline uint32_t tansyattic_begin_expression(struct tansyattic_module *module, const struct tansyattic_type *type,
+                                                   struct tansyattic_function *function, uint8_t *text,
+                                                   size_t text_length, struct tansyattic_verdict *out);
+
+/* The same of the function at this index, the imported ones counted, with the locals that its body declares. Its
+ * operators stand in the module's bytes from `*first` up to `*behind`, which are written only where the status is
+ * TANSYATTIC_VALID. */
+static inline uint32_t tansyattic_begin_body(struct tansyattic_module *module, uint32_t index,
+                                             struct tansyattic_function *function, uint64_t *first, uint64_t *behind,
+                                             uint8_t *text, size_t text_length, struct tansyattic_verdict *out);
+
+/* Declares so many more locals of this type, before the first operator. Where the status isn't TANSYATTIC_VALID,
+ * nothing is changed. */
+static inline uint32_t tansyattic_define_locals(struct tansyattic_function *function, uint32_t count,
+                                                const struct tansyattic_type *type, uint64_t offset, uint8_t *text,
+                                                size_t text_length, struct tansyattic_verdict *out);
+
+/* Takes the operator that the bytes begin with; more may stand behind it. Where the status is TANSYATTIC_VALID, it is
+ * accepted, and `*taken` is how many bytes it has; else `*taken` is 0. TANSYATTIC_INVALID: its rule doesn't hold.
+ * TANSYATTIC_MALFORMED: the bytes begin with no operator, or end inside one (`unexpected end`).
+ * TANSYATTIC_OUT_OF_MEMORY. After one of these the function has failed: it accepts no operator any more, and isn't
+ * finished. TANSYATTIC_NOT_COVERED: a vector operator, while their proposal is on; nothing is changed. */
+static inline uint32_t tansyattic_op(struct tansyattic_function *function, const uint8_t *bytes, size_t length,
+                                     uint64_t offset, size_t *taken, uint8_t *text, size_t text_length,
+                                     struct tansyattic_verdict *out);
+
+/* The same, but for this: where the status isn't TANSYATTIC_VALID, nothing is changed, and the function hasn't failed
+ * for it. */
+static inline uint32_t tansyattic_try_op(struct tansyattic_function *function, const uint8_t *bytes, size_t length,
+                                         uint64_t offset, size_t *taken, uint8_t *text, size_t text_length,
+                                         struct tansyattic_verdict *out);
+
+/* Whether the function is whole: it hasn't failed, and no frame is open. It changes nothing. */
+static inline uint32_t tansyattic_finish(struct tansyattic_function *function, uint64_t offset, uint8_t *text,
+                                         size_t text_length, struct tansyattic_verdict *out);
+
+/* Frees a function, which is TANSYATTIC_NONE then. Where it was so before, nothing is done. */
+void tansyattic_free_function(struct tansyattic_function *function);
+
+/* How many operands there are, in all frames; how many frames are open; how many locals there are, with the parameters.
+ * 0 where there is no function. After a failure they tell of the state that the refused operator left. */
+uint64_t tansyattic_operands(struct tansyattic_function *function);
+uint64_t tansyattic_frames(struct tansyattic_function *function);
+uint32_t tansyattic_locals(struct tansyattic_function *function);
+
+/* The type of the operand at this depth, the top at 0; the frame at this depth, the innermost at 0; the type of the
+ * local at this index. Each answers 1 where there is one, which is written; else 0. */
+uint32_t tansyattic_operand(struct tansyattic_function *function, uint64_t depth, struct tansyattic_type *type);
+uint32_t tansyattic_frame(struct tansyattic_function *function, uint64_t depth, struct tansyattic_frame *frame);
+uint32_t tansyattic_local(struct tansyattic_function *function, uint32_t index, struct tansyattic_type *type);
+
+/* The name, in the standard, of the operator that the bytes begin with, as far as its code tells; and that of a
+ * function in the module's name section, the imported functions counted. Each writes as much as there is room for, and
+ * answers the length of the whole: 0 where there is no name. Vector operators have none here. */
+static inline size_t tansyattic_operator_name(const uint8_t *bytes, size_t length, uint8_t *text, size_t text_length);
+static inline size_t tansyattic_function_name(struct tansyattic_module *module, uint32_t function, uint8_t *text,
+                                              size_t text_length);
 
 /* The version of the library: 65,536 times the major number, 256 times the minor one, and the patch. A contract of a
  * call never gets weaker within a major version. */
@@ -196,6 +469,32 @@ uint32_t tansyattic_raw_validate_module(struct tansyattic_module *module, uint8_
                                         struct tansyattic_verdict *out);
 uint32_t tansyattic_raw_validate_next(struct tansyattic_module *module, size_t *position, uint8_t *text,
                                       size_t text_length, struct tansyattic_verdict *out);
+
+uint32_t tansyattic_raw_declare(const uint8_t *bytes, size_t length, uint32_t features,
+                                struct tansyattic_module *module, uint8_t *text, size_t text_length,
+                                struct tansyattic_verdict *out);
+uint32_t tansyattic_raw_begin(struct tansyattic_module *module, uint32_t type_index,
+                              struct tansyattic_function *function, uint8_t *text, size_t text_length,
+                              struct tansyattic_verdict *out);
+uint32_t tansyattic_raw_begin_expression(struct tansyattic_module *module, const struct tansyattic_type *type,
+                                         struct tansyattic_function *function, uint8_t *text, size_t text_length,
+                                         struct tansyattic_verdict *out);
+uint32_t tansyattic_raw_begin_body(struct tansyattic_module *module, uint32_t index,
+                                   struct tansyattic_function *function, uint64_t *first, uint64_t *behind,
+                                   uint8_t *text, size_t text_length, struct tansyattic_verdict *out);
+uint32_t tansyattic_raw_define_locals(struct tansyattic_function *function, uint32_t count,
+                                      const struct tansyattic_type *type, uint64_t offset, uint8_t *text,
+                                      size_t text_length, struct tansyattic_verdict *out);
+uint32_t tansyattic_raw_op(struct tansyattic_function *function, const uint8_t *bytes, size_t length, uint64_t offset,
+                           size_t *taken, uint8_t *text, size_t text_length, struct tansyattic_verdict *out);
+uint32_t tansyattic_raw_try_op(struct tansyattic_function *function, const uint8_t *bytes, size_t length,
+                               uint64_t offset, size_t *taken, uint8_t *text, size_t text_length,
+                               struct tansyattic_verdict *out);
+uint32_t tansyattic_raw_finish(struct tansyattic_function *function, uint64_t offset, uint8_t *text,
+                               size_t text_length, struct tansyattic_verdict *out);
+size_t tansyattic_raw_operator_name(const uint8_t *bytes, size_t length, uint8_t *text, size_t text_length);
+size_t tansyattic_raw_function_name(struct tansyattic_module *module, uint32_t function, uint8_t *text,
+                                    size_t text_length);
 
 /* An address for no bytes, which nothing is read from, and one for no text. */
 static inline const uint8_t *tansyattic_bytes(const uint8_t *bytes) {
@@ -234,6 +533,65 @@ static inline uint32_t tansyattic_validate_module(struct tansyattic_module *modu
 static inline uint32_t tansyattic_validate_next(struct tansyattic_module *module, size_t *position,
                                                 uint8_t *text, size_t text_length, struct tansyattic_verdict *out) {
     return tansyattic_raw_validate_next(module, position, tansyattic_text(text), text_length, out);
+}
+
+static inline uint32_t tansyattic_declare(const uint8_t *bytes, size_t length, uint32_t features,
+                                          struct tansyattic_module *module, uint8_t *text, size_t text_length,
+                                          struct tansyattic_verdict *out) {
+    return tansyattic_raw_declare(tansyattic_bytes(bytes), length, features, module, tansyattic_text(text),
+                                  text_length, out);
+}
+
+static inline uint32_t tansyattic_begin(struct tansyattic_module *module, uint32_t type_index,
+                                        struct tansyattic_function *function, uint8_t *text, size_t text_length,
+                                        struct tansyattic_verdict *out) {
+    return tansyattic_raw_begin(module, type_index, function, tansyattic_text(text), text_length, out);
+}
+
+static inline uint32_t tansyattic_begin_expression(struct tansyattic_module *module, const struct tansyattic_type *type,
+                                                   struct tansyattic_function *function, uint8_t *text,
+                                                   size_t text_length, struct tansyattic_verdict *out) {
+    return tansyattic_raw_begin_expression(module, type, function, tansyattic_text(text), text_length, out);
+}
+
+static inline uint32_t tansyattic_begin_body(struct tansyattic_module *module, uint32_t index,
+                                             struct tansyattic_function *function, uint64_t *first, uint64_t *behind,
+                                             uint8_t *text, size_t text_length, struct tansyattic_verdict *out) {
+    return tansyattic_raw_begin_body(module, index, function, first, behind, tansyattic_text(text), text_length, out);
+}
+
+static inline uint32_t tansyattic_define_locals(struct tansyattic_function *function, uint32_t count,
+                                                const struct tansyattic_type *type, uint64_t offset, uint8_t *text,
+                                                size_t text_length, struct tansyattic_verdict *out) {
+    return tansyattic_raw_define_locals(function, count, type, offset, tansyattic_text(text), text_length, out);
+}
+
+static inline uint32_t tansyattic_op(struct tansyattic_function *function, const uint8_t *bytes, size_t length,
+                                     uint64_t offset, size_t *taken, uint8_t *text, size_t text_length,
+                                     struct tansyattic_verdict *out) {
+    return tansyattic_raw_op(function, tansyattic_bytes(bytes), length, offset, taken, tansyattic_text(text),
+                             text_length, out);
+}
+
+static inline uint32_t tansyattic_try_op(struct tansyattic_function *function, const uint8_t *bytes, size_t length,
+                                         uint64_t offset, size_t *taken, uint8_t *text, size_t text_length,
+                                         struct tansyattic_verdict *out) {
+    return tansyattic_raw_try_op(function, tansyattic_bytes(bytes), length, offset, taken, tansyattic_text(text),
+                                 text_length, out);
+}
+
+static inline uint32_t tansyattic_finish(struct tansyattic_function *function, uint64_t offset, uint8_t *text,
+                                         size_t text_length, struct tansyattic_verdict *out) {
+    return tansyattic_raw_finish(function, offset, tansyattic_text(text), text_length, out);
+}
+
+static inline size_t tansyattic_operator_name(const uint8_t *bytes, size_t length, uint8_t *text, size_t text_length) {
+    return tansyattic_raw_operator_name(tansyattic_bytes(bytes), length, tansyattic_text(text), text_length);
+}
+
+static inline size_t tansyattic_function_name(struct tansyattic_module *module, uint32_t function, uint8_t *text,
+                                              size_t text_length) {
+    return tansyattic_raw_function_name(module, function, tansyattic_text(text), text_length);
 }
 
 #ifdef __cplusplus

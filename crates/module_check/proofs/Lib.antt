@@ -3,6 +3,7 @@ pub mod Behind
 pub mod Counted
 pub mod FirstBytes
 pub mod Groups
+pub mod Sections
 pub mod Turned
 pub mod Unplaced
 pub mod Wherever

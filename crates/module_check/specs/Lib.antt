@@ -1,9 +1,11 @@
 pub mod Accepted
 pub mod Begin
 pub mod Constant
+pub mod EmptySections
 pub mod FirstBytes
 pub mod Loaded
 pub mod Refusals
 pub mod Safe
 pub mod Turns
+pub mod Unbodied
 pub mod Verdicts

@@ -12,6 +12,8 @@ mod loaded;
 mod module_verdict;
 mod operator_names;
 mod operators;
+mod reasons;
+mod unbodied;
 mod verdict;
 mod whole;
 
@@ -20,10 +22,13 @@ pub use crate::buffers::BodyBuffers;
 pub use crate::code::CodeReader;
 pub use crate::constant::ConstantPlace;
 pub use crate::loaded::LoadedModule;
-pub use crate::module_verdict::{ModuleVerdict, NO_BODY, NOT_LOADED, OUT_OF_MEMORY, VALID};
+pub use crate::module_verdict::{
+    ModuleVerdict, NO_BODY, NOT_LOADED, OUT_OF_MEMORY, VALID, write_text,
+};
 pub use crate::operator_names::operator_name;
+pub use crate::unbodied::LoadedDeclarations;
 pub use crate::verdict::{CheckError, Item, Verdict};
 pub use crate::whole::{check_function, check_module};
 pub use binary_modules::{ConstantExpression, FunctionNames};
-pub use binary_operators::{OperatorLists, ReadError};
+pub use binary_operators::{CanonicalTypes, OperatorLists, ReadError};
 pub use module_rules::{ModuleFeatures, Place};

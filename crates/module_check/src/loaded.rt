@@ -15,6 +15,7 @@ use crate::body::check_body;
 use crate::buffers::BodyBuffers;
 use crate::code::CodeReader;
 use crate::constant::ConstantPlace;
+use crate::unbodied::LoadedDeclarations;
 use crate::verdict::Verdict;
 use binary_modules::{ConstantExpression, FunctionNames, Module, read_function_names, read_module};
 use binary_operators::{BinaryReader, CanonicalTypes, Cause, Fault, ReadError};
@@ -49,6 +50,7 @@ impl<'a> LoadedModule<'a> {
     ghost use Rattle.module_check.specs.Loaded.{declarations, features_of, bytes_of, declared};
     ghost use Rattle.module_check.specs.Loaded.{body_at, AreTypesOf};
     ghost use Rattle.module_check.specs.Accepted.{IsAcceptedCode};
+    ghost use Rattle.module_check.specs.Unbodied.{DeclaresInModule, declared_by, features_of as features_alone};
     ghost use Rattle.module_check.specs.Loaded.{IsAcceptedFunction, IsAcceptedExpression};
     ghost use Rattle.module_check.specs.Loaded.{IsSafeFunction, IsSafeExpression};
     ghost use Rattle.module_check.specs.Safe.{IsSafeCode};
@@ -221,8 +223,26 @@ impl<'a> LoadedModule<'a> {
         CodeReader::new(expression.bytes.duplicate(), self.types())
     }
 
+    /// What it declares alone: its bytes aren't kept.
+    pub(crate) fn into_declarations(self) -> LoadedDeclarations
+        ensures read { DeclaresInModule (bytes_of self.entry) (declared_by result) }
+        ensures features { features_alone result ≡ features_of self.entry }
+    {
+        let LoadedModule {
+            bytes: _,
+            features,
+            declared,
+            lists,
+            merged: _,
+            bodies: _,
+            expressions: _,
+            names: _,
+        } = self;
+        LoadedDeclarations::of_parts(features, declared, lists)
+    }
+
     /// The types of the module, by which indices in its bodies are read.
-    fn types(&self) -> CanonicalTypes<'_>
+    pub fn types(&self) -> CanonicalTypes<'_>
         ensures { AreTypesOf self.now result }
     {
         CanonicalTypes::new(&self.declared.canonical)

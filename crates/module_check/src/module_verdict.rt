@@ -2,8 +2,9 @@
 
 ghost use Rattle.std.specs.Prelude.{◌≡◌, ◌≢◌, ◌⊎◌, ◌<◌, ◌≤◌, length, take};
 ghost use Rattle.module_check.specs.declared.verdict.Verdict.TheVariants.{Accepted, OutOfMemory};
-ghost use Rattle.module_check.specs.Verdicts.{IsConsistent, SaysNo};
+ghost use Rattle.module_check.specs.Verdicts.{IsConsistent, SaysNo, status_of};
 
+use crate::reasons::reason_number;
 use crate::verdict::{Item, Verdict};
 use module_rules::Place;
 
@@ -43,12 +44,16 @@ pub struct ModuleVerdict {
     /// What is reported: 0 the body of a function; 1 to 5 a constant expression, that of a table or a global, the
     /// offset of an element segment, an item of one, the offset of a data segment; 6 the module.
     pub kind: u32,
+    /// Why, as a number, where an operator's rule refuses; else 0.
+    pub reason: u32,
     /// The index of the function, table, global or segment.
     pub index: u64,
     /// The offset in the bytes.
     pub offset: u64,
     /// How many bytes of the text were written.
     pub text_length: usize,
+    /// How many bytes the whole text has.
+    pub text_needed: usize,
     /// How many bodies and constant expressions are accepted.
     pub accepted: u64,
     /// How many are refused, as malformed or not valid; the module as a whole counts for one.
@@ -71,7 +76,7 @@ fn kind_and_index(item: Option<Item>) -> (u32, u64) {
 }
 
 /// Writes the bytes, as many as there is room for, and answers how many.
-fn write_text(message: &[u8], text: &mut [u8]) -> usize
+pub fn write_text(message: &[u8], text: &mut [u8]) -> usize
     ensures fits { result ≤ length text.new }
     ensures written { take result text.new ≡ take result message.now }
     ensures room { length text.new ≡ length text.old }
@@ -88,13 +93,16 @@ impl ModuleVerdict {
         ensures refused { result.refused ≡ 0 }
         ensures not_covered { result.not_covered ≡ 0 }
         ensures text { result.text_length ≡ 0 }
+        ensures needed { result.text_needed ≡ 0 }
     {
         ModuleVerdict {
             status: VALID,
             kind: MODULE,
+            reason: 0,
             index: 0,
             offset: 0,
             text_length: 0,
+            text_needed: 0,
             accepted: 0,
             refused: 0,
             not_covered: 0,
@@ -115,13 +123,16 @@ impl ModuleVerdict {
         ensures refused { self.new.refused ≡ self.old.refused }
         ensures not_covered { self.new.not_covered ≡ self.old.not_covered }
         ensures fits { self.new.text_length ≤ length text.new }
+        ensures needed { self.new.text_needed ≡ length message.now }
     {
         let (kind, index) = kind_and_index(item);
         self.status = status;
         self.kind = kind;
+        self.reason = 0;
         self.index = index;
         self.offset = offset;
         self.text_length = write_text(message.as_bytes(), text);
+        self.text_needed = message.len();
     }
 
     /// Counts what is refused.
@@ -137,6 +148,7 @@ impl ModuleVerdict {
         requires { IsConsistent (length text.old) self.old }
         ensures consistent { IsConsistent (length text.new) self.new }
         ensures not_accepted { self.new.status ≢ 0 }
+        ensures first { self.old.status ≡ 0 → self.new.status ≡ 4 }
     {
         self.not_covered = self.not_covered.saturating_add(1);
         if self.status == VALID {
@@ -151,6 +163,7 @@ impl ModuleVerdict {
         ensures accepted { self.new.status ≡ 0 → (self.old.status ≡ 0) × (verdict.now ≡ Accepted) }
         ensures refused { SaysNo self.new.status → SaysNo self.old.status
             ⊎ ((verdict.now ≢ Accepted) × (verdict.now ≢ OutOfMemory)) }
+        ensures first { self.old.status ≡ 0 → self.new.status ≡ status_of verdict.now }
     {
         match verdict {
             Verdict::Accepted => self.accepted = self.accepted.saturating_add(1),
@@ -158,6 +171,7 @@ impl ModuleVerdict {
                 self.count_refused();
                 if self.status == VALID || self.status == NOT_COVERED {
                     self.report(INVALID, item, refusal.offset(), refusal.message(), text);
+                    self.reason = reason_number(refusal);
                 }
             }
             Verdict::Malformed(refusal) => {

@@ -122,6 +122,14 @@ impl Verdict {
         }
     }
 
+    /// Whether it is that of a vector operator, which isn't covered.
+    pub fn is_not_covered(&self) -> bool
+        ensures covered { result ≡ true → (offset : ℕ) × (self.now ≡ NotCovered offset) }
+        ensures others { result ≡ false → (offset : ℕ) → self.now ≢ NotCovered offset }
+    {
+        matches!(self, Verdict::NotCovered(_))
+    }
+
     /// The verdict under these proposals: vector operators are refused where theirs is off.
     pub fn under(self, features: &WasmFeatures) -> Verdict
         ensures accepted { (result ≡ Accepted) ↔ (self ≡ Accepted) }

@@ -1,4 +1,11 @@
+pub mod Answered
+pub mod Begun
 pub mod Bytes
+pub mod Fieldless
+pub mod FunctionWords
+pub mod Kept
+pub mod Readings
 pub mod Rows
+pub mod Taken
 pub mod Values
 pub mod Words

@@ -4,22 +4,23 @@ ghost use Rattle.std.specs.Prelude.{◌≡◌, ◌≢◌, ◌⊎◌, ◌<◌, �
 ghost use Rattle.module_check.specs.Loaded.{IsAcceptedFunction, IsAcceptedModule, IsSafeFunction, IsValid};
 ghost use Rattle.module_check.specs.Verdicts.{IsConsistent, SaysNo};
 ghost use Rattle.module_check.specs.declared.verdict.Verdict.TheVariants.{Accepted};
-ghost use Rattle.module_handles.specs.Calls.{OnModule, OfModule, HaveTheSame, IsLoadedFrom, IsValidModuleOf};
+ghost use Rattle.module_handles.specs.Calls.{OnWhole, OfWhole, OnHeld, OnModule, OfModule, OnDeclared, HaveTheSame};
+ghost use Rattle.module_handles.specs.Calls.{IsLoadedFrom, IsValidModuleOf, AreDeclaredFrom};
 ghost use Rattle.module_handles.specs.Items.{AreSafeBetween, AreSafeFrom};
 
 use crate::handle::ModuleHandle;
 use crate::items::check_from;
-use crate::shared::SharedModule;
+use crate::shared::{HeldModule, SharedModule};
 use module_check::{
-    BodyBuffers, Item, LoadedModule, ModuleFeatures, ModuleVerdict, NO_BODY, NOT_LOADED,
-    OUT_OF_MEMORY, VALID, Verdict, check_function, check_module,
+    BodyBuffers, Item, LoadedDeclarations, LoadedModule, ModuleFeatures, ModuleVerdict, NO_BODY,
+    NOT_LOADED, OUT_OF_MEMORY, VALID, Verdict, check_function, check_module,
 };
 use std::alloc::Global;
 use std::sync::Arc;
 use validate_types::Flags;
 
 /// The status of a verdict.
-fn status_of(verdict: &ModuleVerdict) -> u32
+pub(crate) fn status_of(verdict: &ModuleVerdict) -> u32
     ensures { result ≡ verdict.now.status }
 {
     verdict.status
@@ -121,7 +122,7 @@ pub fn load(
     *out = ModuleVerdict::new();
     match read(alloc, bytes, features) {
         Ok(module) => {
-            if !keep_new(alloc, module, handle) {
+            if !keep_new(alloc, HeldModule::Whole(module), handle) {
                 out.report(OUT_OF_MEMORY, None, 0, "out of memory", text);
             }
         }
@@ -130,23 +131,64 @@ pub fn load(
     status_of(out)
 }
 
+/// Reads what a module declares that has no bodies yet, of which these are all the bytes, and checks that it is valid
+/// under these proposals. Where the status is 0, the handle has it, and what it had before is freed; else it stays as it
+/// was. The bytes aren't kept.
+pub fn declare(
+    alloc: Global,
+    bytes: &[u8],
+    features: u32,
+    handle: &mut ModuleHandle,
+    text: &mut [u8],
+    out: &mut ModuleVerdict,
+) -> u32
+    ensures status { result ≡ out.new.status }
+    ensures consistent { IsConsistent (length text.new) out.new }
+    ensures declared { result ≡ 0 → OnHeld handle.new.held (λ h.
+        OnDeclared h (AreDeclaredFrom bytes.now features)) }
+    ensures unchanged { result ≢ 0 → handle.new.held ≡ handle.old.held }
+{
+    *out = ModuleVerdict::new();
+    match read_declarations(alloc, bytes, features) {
+        Ok(declarations) => {
+            if !keep_new(alloc, HeldModule::Declared(declarations), handle) {
+                out.report(OUT_OF_MEMORY, None, 0, "out of memory", text);
+            }
+        }
+        Err(verdict) => out.note(&verdict, None, text),
+    }
+    status_of(out)
+}
+
+/// Reads what a module declares that has no bodies yet, of which these are all the bytes.
+fn read_declarations(
+    alloc: Global,
+    bytes: &[u8],
+    features: u32,
+) -> Result<LoadedDeclarations, Verdict>
+    ensures declared { IfOk result (AreDeclaredFrom bytes.now features) }
+    ensures refused { IfErr result (λ verdict. verdict ≢ Accepted) }
+{
+    LoadedDeclarations::new(alloc, bytes, ModuleFeatures::from_bits_truncate(features))
+}
+
 /// Puts a module into a handle. Answers whether there was memory for it; else the handle stays as it was.
-fn keep_new(alloc: Global, module: LoadedModule<'static>, handle: &mut ModuleHandle) -> bool
-    ensures kept { result ≡ true → OnModule handle.new.held (λ m. m ≡ «module».entry) }
+fn keep_new(alloc: Global, module: HeldModule, handle: &mut ModuleHandle) -> bool
+    ensures kept { result ≡ true → OnHeld handle.new.held (λ h. h ≡ «module») }
     ensures unchanged { result ≡ false → handle.new.held ≡ handle.old.held }
 {
     match Arc::new(alloc, module) {
-        Ok(loaded) => keep(alloc, SharedModule { loaded }, handle),
+        Ok(held) => keep(alloc, SharedModule { held }, handle),
         Err(_) => false,
     }
 }
 
 /// Another owner of a module, if there was memory for it.
-fn another(shared: &SharedModule) -> Option<SharedModule>
+pub(crate) fn another(shared: &SharedModule) -> Option<SharedModule>
     ensures { IfSome result (λ s. HaveTheSame (Some s) (Some shared.now)) }
 {
-    match shared.loaded.clone() {
-        Ok(loaded) => Some(SharedModule { loaded }),
+    match shared.held.clone() {
+        Ok(held) => Some(SharedModule { held }),
         Err(_) => None,
     }
 }
@@ -177,9 +219,15 @@ pub fn share(alloc: Global, handle: &mut ModuleHandle, other: &mut ModuleHandle)
     }
 }
 
-/// The index behind that of the last function of a module.
-fn function_count(module: &LoadedModule<'_>) -> u32 {
-    module.function_of(module.body_count())
+/// How many functions a module has, the imported ones counted, and how many of them are imported.
+fn function_counts(module: &HeldModule) -> (u32, u32) {
+    match module {
+        HeldModule::Whole(loaded) => (
+            loaded.function_of(loaded.body_count()),
+            loaded.function_of(0),
+        ),
+        HeldModule::Declared(declarations) => declarations.function_counts(),
+    }
 }
 
 /// The index behind that of the last function, or 0 where there is no module.
@@ -189,7 +237,7 @@ pub fn functions(alloc: Global, handle: &mut ModuleHandle) -> u32
     let Some(shared) = handle.take(alloc) else {
         return 0;
     };
-    let count = function_count(&shared.loaded);
+    let (count, _) = function_counts(&shared.held);
     handle.put(alloc, shared);
     count
 }
@@ -201,13 +249,28 @@ pub fn imported_functions(alloc: Global, handle: &mut ModuleHandle) -> u32
     let Some(shared) = handle.take(alloc) else {
         return 0;
     };
-    let count = shared.loaded.function_of(0);
+    let (_, count) = function_counts(&shared.held);
     handle.put(alloc, shared);
     count
 }
 
+/// Reports that a module has no body for a function, or none at all.
+pub(crate) fn report_no_body(item: Option<Item>, text: &mut [u8], out: &mut ModuleVerdict)
+    requires { IsConsistent (length text.old) out.old }
+    ensures consistent { IsConsistent (length text.new) out.new }
+    ensures status { out.new.status ≡ 5 }
+{
+    out.report(
+        NO_BODY,
+        item,
+        0,
+        "the module has no body for this function",
+        text,
+    );
+}
+
 /// Takes the module of a handle for a call, and begins its verdict, which reports where there is none.
-fn begin(
+pub(crate) fn begin(
     alloc: Global,
     handle: &mut ModuleHandle,
     text: &mut [u8],
@@ -242,14 +305,68 @@ fn check_one(
     if module.body_of(function).is_some() {
         check_function(module, function, &mut BodyBuffers::new(alloc), text, out);
     } else {
-        let item = Some(Item::Function(function));
-        out.report(
-            NO_BODY,
-            item,
-            0,
-            "the module has no body for this function",
-            text,
-        );
+        report_no_body(Some(Item::Function(function)), text, out);
+    }
+}
+
+/// The same of a module that is held: one without bodies has none for it.
+fn check_one_held(
+    alloc: Global,
+    held: &HeldModule,
+    function: u32,
+    text: &mut [u8],
+    out: &mut ModuleVerdict,
+)
+    requires consistent { IsConsistent (length text.old) out.old }
+    requires first { out.old.status ≡ 0 }
+    ensures consistent { IsConsistent (length text.new) out.new }
+    ensures safe { out.new.status ≡ 0 → OnWhole held.now (λ m. IsSafeFunction m function) }
+    ensures refused { (out.new.status ≡ 1) ⊎ (out.new.status ≡ 2)
+        → OnWhole held.now (λ m. ¬ IsAcceptedFunction m function) }
+{
+    match held {
+        HeldModule::Whole(loaded) => check_one(alloc, loaded, function, text, out),
+        HeldModule::Declared(_) => report_no_body(Some(Item::Function(function)), text, out),
+    }
+}
+
+/// Checks each body and each constant expression of a module that is held: one without bodies can't be checked.
+fn check_all_held(alloc: Global, held: &HeldModule, text: &mut [u8], out: &mut ModuleVerdict)
+    requires consistent { IsConsistent (length text.old) out.old }
+    requires first { out.old.status ≡ 0 }
+    ensures consistent { IsConsistent (length text.new) out.new }
+    ensures valid { out.new.status ≡ 0 → OnWhole held.now IsValid }
+    ensures refused { (out.new.status ≡ 1) ⊎ (out.new.status ≡ 2)
+        → OnWhole held.now (λ m. ¬ IsAcceptedModule m) }
+{
+    match held {
+        HeldModule::Whole(loaded) => check_all(alloc, loaded, text, out),
+        HeldModule::Declared(_) => report_no_body(None, text, out),
+    }
+}
+
+/// Checks them one after another from a position on, up to one that isn't accepted, behind which the position is then.
+fn check_from_held(
+    alloc: Global,
+    held: &HeldModule,
+    position: &mut usize,
+    text: &mut [u8],
+    out: &mut ModuleVerdict,
+)
+    requires consistent { IsConsistent (length text.old) out.old }
+    requires first { out.old.status ≡ 0 }
+    ensures consistent { IsConsistent (length text.new) out.new }
+    ensures rest { out.new.status ≡ 0 → OnWhole held.now (λ m. AreSafeFrom m position.old) }
+    ensures before { out.new.status ≢ 0 → OfWhole held.now (λ m.
+        AreSafeBetween m position.old (position.new - 1)) }
+    ensures further { out.new.status ≢ 0 → OfWhole held.now (λ m. position.old < position.new) }
+{
+    match held {
+        HeldModule::Whole(loaded) => {
+            let buffers = &mut BodyBuffers::new(alloc);
+            check_from(loaded, position, buffers, text, out);
+        }
+        HeldModule::Declared(_) => report_no_body(None, text, out),
     }
 }
 
@@ -269,10 +386,11 @@ pub fn validate_function(
         → OnModule handle.old.held (λ m. ¬ IsAcceptedFunction m function) }
     ensures kept { handle.new.held ≡ handle.old.held }
 {
-    if let Some(shared) = begin(alloc, handle, text, out) {
-        check_one(alloc, &shared.loaded, function, text, out);
-        handle.put(alloc, shared);
-    }
+    let Some(shared) = begin(alloc, handle, text, out) else {
+        return status_of(out);
+    };
+    check_one_held(alloc, &shared.held, function, text, out);
+    handle.put(alloc, shared);
     status_of(out)
 }
 
@@ -291,10 +409,11 @@ pub fn validate_module(
         → OnModule handle.old.held (λ m. ¬ IsAcceptedModule m) }
     ensures kept { handle.new.held ≡ handle.old.held }
 {
-    if let Some(shared) = begin(alloc, handle, text, out) {
-        check_all(alloc, &shared.loaded, text, out);
-        handle.put(alloc, shared);
-    }
+    let Some(shared) = begin(alloc, handle, text, out) else {
+        return status_of(out);
+    };
+    check_all_held(alloc, &shared.held, text, out);
+    handle.put(alloc, shared);
     status_of(out)
 }
 
@@ -315,15 +434,10 @@ pub fn validate_next(
     ensures further { result ≢ 0 → OfModule handle.old.held (λ m. position.old < position.new) }
     ensures kept { handle.new.held ≡ handle.old.held }
 {
-    if let Some(shared) = begin(alloc, handle, text, out) {
-        check_from(
-            &shared.loaded,
-            position,
-            &mut BodyBuffers::new(alloc),
-            text,
-            out,
-        );
-        handle.put(alloc, shared);
-    }
+    let Some(shared) = begin(alloc, handle, text, out) else {
+        return status_of(out);
+    };
+    check_from_held(alloc, &shared.held, position, text, out);
+    handle.put(alloc, shared);
     status_of(out)
 }

@@ -1,11 +1,60 @@
 //! A module as several handles share it.
 
-use module_check::LoadedModule;
-use std::sync::Arc;
+ghost use Rattle.std.specs.Prelude.{◌≡◌};
+ghost use Rattle.module_check.specs.Loaded.{declared, features_of};
+ghost use Rattle.module_handles.specs.Modules.{context_in, features_in, AreTypesIn};
+ghost use Rattle.validate_resources.specs.Kept.{declared_lists};
+ghost use Rattle.validate_resources.specs.Lists.{context_of};
 
-/// A module that was read, as several handles share it.
+use module_check::{CanonicalTypes, LoadedDeclarations, LoadedModule};
+use std::sync::Arc;
+use validate_resources::ModuleLists;
+use validate_types::WasmFeatures;
+
+/// A module that was read, or what one declares that has no bodies yet.
+#[derive(Drop)]
+pub enum HeldModule {
+    /// A module with its bodies.
+    Whole(LoadedModule<'static>),
+    /// What is declared alone.
+    Declared(LoadedDeclarations),
+}
+
+impl HeldModule {
+    /// The lookup in which bodies are checked.
+    pub fn resources(&self) -> &ModuleLists
+        ensures { context_of (declared_lists result.now) ≡ context_in self.now }
+    {
+        match self {
+            HeldModule::Whole(loaded) => loaded.resources(),
+            HeldModule::Declared(declarations) => declarations.resources(),
+        }
+    }
+
+    /// The proposals that are on, as operators need them.
+    pub fn features(&self) -> WasmFeatures
+        ensures { result ≡ features_in self.now }
+    {
+        match self {
+            HeldModule::Whole(loaded) => loaded.features().operator_features(),
+            HeldModule::Declared(declarations) => declarations.features().operator_features(),
+        }
+    }
+
+    /// The types of the module, by which indices in bodies are read.
+    pub fn types(&self) -> CanonicalTypes<'_>
+        ensures { AreTypesIn self.now result }
+    {
+        match self {
+            HeldModule::Whole(loaded) => loaded.types(),
+            HeldModule::Declared(declarations) => declarations.types(),
+        }
+    }
+}
+
+/// What several handles share.
 #[derive(Drop)]
 pub struct SharedModule {
     /// The module.
-    pub loaded: Arc<LoadedModule<'static>>,
+    pub held: Arc<HeldModule>,
 }

@@ -1,0 +1,246 @@
+//! A module that has no bodies yet.
+
+ghost use Rattle.std.specs.Prelude.{◌≡◌, ◌≢◌, ◌≤◌, ◌<◌, ◌+◌, ◌^◌, ◌++◌, length, Some, IfOk, IfErr};
+ghost use Rattle.module_rules.specs.Declarations.{declarations_of};
+ghost use Rattle.module_rules.specs.Lookup.{lookup_lists};
+ghost use Rattle.module_rules.specs.Validity.{IsValidModule};
+ghost use Rattle.validate_resources.specs.Kept.{declared_lists};
+ghost use Rattle.validate_resources.specs.Lists.{module_of};
+ghost use Rattle.module_check.specs.EmptySections.{number_bytes, list_section, empty_segments, sections_behind};
+ghost use Rattle.module_check.specs.declared.verdict.Verdict.TheVariants.{Accepted};
+
+use crate::loaded::LoadedModule;
+use crate::verdict::Verdict;
+use binary_operators::{BinaryReader, CanonicalTypes, ReadError};
+use module_rules::{DeclaredModule, ModuleFeatures};
+use std::alloc::{AllocError, Global};
+use validate_resources::ModuleLists;
+
+/// What a module declares that has no bodies yet, which is valid.
+#[derive(Drop)]
+pub struct LoadedDeclarations {
+    features: ModuleFeatures,
+    declared: DeclaredModule,
+    lists: ModuleLists,
+    ghost valid: { IsValidModule features (declarations_of declared) },
+    ghost lookup: { module_of (lookup_lists (declarations_of declared)) ≡ Some (declared_lists lists) },
+}
+
+/// More than a module may count: a count above is refused, whatever stands behind.
+const MOST: u32 = 1_000_001;
+
+/// How many functions of its own a module declares, and how many data segments it counts.
+#[derive(Clone, Copy)]
+struct Counts {
+    functions: u32,
+    data_segments: u32,
+}
+
+/// The count that a section's contents begin with, if it isn't more than there can be.
+fn count_in(contents: &BinaryReader<'_>) -> u32
+    ensures { result ≤ MOST }
+{
+    match contents.duplicate().read_var_u32() {
+        Ok(count) => count.min(MOST),
+        Err(_) => 0,
+    }
+}
+
+/// Notes what a section counts, if it is one of those. There is no function for which there is no byte.
+fn note_counts(id: u8, contents: &BinaryReader<'_>, counts: &mut Counts)
+    requires functions { counts.old.functions ≤ MOST }
+    requires data_segments { counts.old.data_segments ≤ MOST }
+    ensures functions { counts.new.functions ≤ MOST }
+    ensures data_segments { counts.new.data_segments ≤ MOST }
+{
+    if id == 3 && count_in(contents) as usize <= contents.bytes_left() {
+        counts.functions = count_in(contents);
+    }
+    if id == 12 {
+        counts.data_segments = count_in(contents);
+    }
+}
+
+/// What the sections of a module count, up to the first that can't be read.
+fn counts_in(reader: &mut BinaryReader<'_>, counts: &mut Counts) -> Result<(), ReadError>
+    requires functions { counts.old.functions ≤ MOST }
+    requires data_segments { counts.old.data_segments ≤ MOST }
+    ensures functions { counts.new.functions ≤ MOST }
+    ensures data_segments { counts.new.data_segments ≤ MOST }
+{
+    let _header = reader.read_bytes(8)?;
+    for _ in 0..reader.bytes_left() {
+        if reader.is_at_end() {
+            return Ok(());
+        }
+        let id = reader.read_u8()?;
+        let contents = reader.sized_part()?;
+        note_counts(id, &contents, counts);
+    }
+    Ok(())
+}
+
+/// An integer of four bytes (WebAssembly core specification, "Binary Format: Values", integers).
+fn number(value: u32) -> [u8; 4]
+    requires { value < 2 ^ 28 }
+    ensures { result ≡ number_bytes value }
+{
+    [
+        (value % 0x80) as u8 + 0x80,
+        (value / 0x80 % 0x80) as u8 + 0x80,
+        (value / 0x4000 % 0x80) as u8 + 0x80,
+        (value / 0x20_0000) as u8,
+    ]
+}
+
+/// A section of this number with a list of so many items, which are these bytes.
+fn list_section(alloc: Global, id: u8, count: u32, items: &[u8]) -> Result<Vec<u8>, AllocError>
+    requires count { count < 2 ^ 28 }
+    requires size { length items.now + 4 < 2 ^ 28 }
+    ensures { IfOk result (λ section. section.items ≡ list_section id count items.now) }
+{
+    let mut section = Vec::new(alloc);
+    section.push(id)?;
+    section.extend_from_slice(&number(items.len() as u32 + 4))?;
+    section.extend_from_slice(&number(count))?;
+    section.extend_from_slice(items)?;
+    Ok(section)
+}
+
+/// So many passive data segments that are empty.
+fn empty_segments(alloc: Global, count: u32) -> Result<Vec<u8>, AllocError>
+    ensures { IfOk result (λ segments. segments.items ≡ empty_segments count) }
+{
+    let mut segments = Vec::new(alloc);
+    for _ in 0..count {
+        segments.extend_from_slice([1, 0].as_slice())?;
+    }
+    Ok(segments)
+}
+
+/// These bytes, and behind them a code section with so many bodies that are empty, and a data section with so many data
+/// segments that are.
+fn with_sections(alloc: Global, bytes: &[u8], counts: Counts) -> Result<Vec<u8>, AllocError>
+    requires functions { counts.functions ≤ MOST }
+    requires data_segments { counts.data_segments ≤ MOST }
+    ensures { IfOk result (λ whole. whole.items
+        ≡ bytes.now ++ sections_behind counts.functions counts.data_segments) }
+{
+    let bodies = Vec::from_elem(alloc, 0u8, counts.functions as usize)?;
+    let code = list_section(alloc, 10, counts.functions, &bodies)?;
+    let segments = empty_segments(alloc, counts.data_segments)?;
+    let data = list_section(alloc, 11, counts.data_segments, &segments)?;
+    let mut whole = Vec::from_slice(alloc, bytes)?;
+    whole.extend_from_slice(&code)?;
+    whole.extend_from_slice(&data)?;
+    Ok(whole)
+}
+
+/// What the sections of a module count.
+fn counts_of(bytes: &[u8]) -> Counts
+    ensures functions { result.functions ≤ MOST }
+    ensures data_segments { result.data_segments ≤ MOST }
+{
+    let mut counts = Counts {
+        functions: 0,
+        data_segments: 0,
+    };
+    match counts_in(&mut BinaryReader::new(bytes), &mut counts) {
+        // What can't be read is refused where all is read.
+        Ok(()) | Err(_) => counts,
+    }
+}
+
+impl LoadedDeclarations {
+    ghost use Rattle.module_check.specs.Unbodied.{BeginsModule, DeclaresInModule, declared_by, features_of, context_in};
+    ghost use Rattle.module_check.specs.Unbodied.{AreTypesIn};
+    ghost use Rattle.validate_resources.specs.Lists.{context_of};
+
+    /// Reads a module that has no bodies yet, of which these are all the bytes: one that ends before its code section, or
+    /// has none. What it declares is checked as by [`LoadedModule::new`], whose errors these are, but for two things: there
+    /// needn't be a body for each function, nor as many data segments as are counted. The bytes aren't kept.
+    pub fn new(
+        alloc: Global,
+        bytes: &[u8],
+        features: ModuleFeatures,
+    ) -> Result<LoadedDeclarations, Verdict>
+        ensures read { IfOk result (λ d. BeginsModule bytes.now (declared_by d)) }
+        ensures features { IfOk result (λ d. features_of d ≡ features) }
+        ensures refused { IfErr result (λ verdict. verdict ≢ Accepted) }
+    {
+        match with_sections(alloc, bytes, counts_of(bytes)) {
+            Ok(whole) => LoadedDeclarations::of_whole(alloc, &whole, features),
+            Err(_) => Err(Verdict::OutOfMemory),
+        }
+    }
+
+    /// What a module declares, of which these are all the bytes, with bodies.
+    fn of_whole(
+        alloc: Global,
+        whole: &[u8],
+        features: ModuleFeatures,
+    ) -> Result<LoadedDeclarations, Verdict>
+        ensures read { IfOk result (λ d. DeclaresInModule whole.now (declared_by d)) }
+        ensures features { IfOk result (λ d. features_of d ≡ features) }
+        ensures refused { IfErr result (λ verdict. verdict ≢ Accepted) }
+    {
+        match LoadedModule::new(alloc, whole, features) {
+            Ok(module) => Ok(module.into_declarations()),
+            Err(verdict) => Err(verdict),
+        }
+    }
+
+    /// What these parts of a module say.
+    pub(crate) fn of_parts(
+        features: ModuleFeatures,
+        declared: DeclaredModule,
+        lists: ModuleLists,
+    ) -> LoadedDeclarations
+        requires valid { IsValidModule features (declarations_of declared) }
+        requires lookup { module_of (lookup_lists (declarations_of declared)) ≡ Some (declared_lists lists) }
+        ensures features { features_of result ≡ features }
+        ensures declared { declared_by result ≡ declarations_of declared }
+    {
+        LoadedDeclarations {
+            features,
+            declared,
+            lists,
+        }
+    }
+
+    /// What it declares, which is valid.
+    pub fn declarations(&self) -> &DeclaredModule
+        ensures declared { declarations_of result.now ≡ declared_by self.now }
+        ensures valid { IsValidModule (features_of self.now) (declarations_of result.now) }
+    {
+        &self.declared
+    }
+
+    /// The lookup in which bodies are checked: it is made of what it declares.
+    pub fn resources(&self) -> &ModuleLists
+        ensures context { context_of (declared_lists result.now) ≡ context_in self.now }
+        ensures lookup { module_of (lookup_lists (declared_by self.now)) ≡ Some (declared_lists result.now) }
+    {
+        &self.lists
+    }
+
+    /// The proposals that are on.
+    pub fn features(&self) -> ModuleFeatures
+        ensures { result ≡ features_of self.now }
+    {
+        self.features
+    }
+
+    /// The types of the module, by which indices in bodies are read.
+    pub fn types(&self) -> CanonicalTypes<'_>
+        ensures { AreTypesIn self.now result }
+    {
+        CanonicalTypes::new(&self.declared.canonical)
+    }
+
+    /// How many functions it has, the imported ones counted, and how many of them are imported.
+    pub fn function_counts(&self) -> (u32, u32) {
+        let all = u32::try_from(self.declared.functions.len()).unwrap_or(u32::MAX);
+        (all, self.declared.imports.functions)
+    }
+}

@@ -3,18 +3,19 @@
        ffi-random SEED SECONDS FILE..
        ffi-random -n NUMBER SEED FILE.. > MODULE
 
-   The second writes the module of that number, and checks it alone. What has to hold: the calls say the same of a
-   module, at once, from a handle, one after another, and function by function; a module that isn't read leaves no
-   handle; all memory is given back. Each module ends where a page ends that can't be read behind it. In one of eight,
-   requests for memory are refused. The last line says how many modules there were, how many of them were read, and
-   how many were wrong; a module that ends the process is told by its number. */
+   The second writes the module of that number, and checks it alone. Half of them are changed in the operators of a body
+   alone. What has to hold: the calls say the same of a module, at once, from a handle, one after another, function by
+   function, and operator by operator, by op and by try_op; a module that isn't read leaves no handle; all memory is
+   given back. Each module ends where a page ends that can't be read behind it. In one of eight, requests for memory are
+   refused, and functions are called in any order. The last line says how many modules there were, how many of them were
+   read, how many operators of these were accepted one by one, and how many modules were wrong; a module that ends the
+   process is told by its number. */
 #define _GNU_SOURCE
-#include "../ffi/tansyattic.h"
+#include "ffi-walk.h"
 #include <inttypes.h>
 #include <signal.h>
 #include <stdio.h>
 #include <stdlib.h>
-#include <string.h>
 #include <sys/mman.h>
 #include <time.h>
 #include <unistd.h>
@@ -62,6 +63,8 @@ static size_t below(size_t bound) { return bound != 0 ? (size_t)(next_number() %
 struct bytes {
     uint8_t *at;
     size_t length;
+    /* Where the operators of a body stand, if there is one. */
+    uint64_t first, behind;
 };
 
 /* The modules that are changed: those that are read stand first. */
@@ -113,10 +116,28 @@ static void change(void) {
     }
 }
 
+/* A change of a byte of a body's operators, or of some of them by others of theirs. */
+static void change_operators(const struct bytes *base) {
+    uint8_t *operators = made + base->first;
+    size_t size = (size_t)(base->behind - base->first), at = below(size), count = 1 + below(4);
+    switch (below(4)) {
+    case 0: operators[at] = (uint8_t)next_number(); break;
+    case 1: operators[at] = edges[below(sizeof edges)]; break;
+    case 2: operators[at] += (uint8_t)(below(2) * 2 - 1); break;
+    default:
+        if (count > size - at) count = size - at;
+        memmove(operators + at, operators + below(size - count + 1), count);
+    }
+}
+
 static void make_module(uint64_t seed, uint64_t number) {
     state = seed * 0x2545f4914f6cdd1du + number;
     const struct bytes *base = &bases[below(below(8) != 0 ? readable_count : base_count)];
     memcpy(made, base->at, length = base->length);
+    if (number % 2 == 0 && base->first < base->behind) {
+        for (size_t changes = 1 + below(3); changes != 0; --changes) change_operators(base);
+        return;
+    }
     for (size_t changes = 1 + below(1 + below(6)); changes != 0 && length != 0; --changes) change();
 }
 
@@ -127,7 +148,9 @@ struct answer {
 
 static void clear(struct answer *answer) { memset(answer, 0, sizeof *answer); }
 
-static bool is_same(const struct answer *a, const struct answer *b) { return memcmp(a, b, sizeof *a) == 0; }
+static bool is_same(const struct answer *a, const struct answer *b) {
+    return is_same_verdict(&a->verdict, &b->verdict) && memcmp(a->text, b->text, TEXT) == 0;
+}
 
 /* Whether both tell the same; what stands behind a text says nothing. */
 static bool tells_the_same(const struct answer *a, const struct answer *b) {
@@ -136,21 +159,39 @@ static bool tells_the_same(const struct answer *a, const struct answer *b) {
            memcmp(a->text, b->text, v->text_length) == 0;
 }
 
+static uint64_t operators;
+
+/* Whether a body comes to the same operator by operator, by either call, with the same on the stacks. Upstream has a
+   text of its own where a whole body ends too early. */
+static bool is_same_by_operators(struct tansyattic_module *module, uint32_t index, const uint8_t *bytes,
+                                 const struct answer *whole) {
+    static struct walk by_op, by_try_op;
+    const struct tansyattic_verdict *v = &by_op.verdict, *w = &whole->verdict;
+    walk_body(module, index, bytes, take_by_op, &by_op);
+    walk_body(module, index, bytes, take_by_try_op, &by_try_op);
+    operators += by_op.operators;
+    if (!is_same_walk(&by_op, &by_try_op) || v->status != w->status) return false;
+    if (v->status == TANSYATTIC_VALID || v->status == TANSYATTIC_NO_BODY) return true;
+    bool is_same_text = v->text_length == w->text_length && memcmp(by_op.text, whole->text, v->text_length) == 0;
+    return v->offset == w->offset && v->reason == w->reason && (is_same_text || by_op.is_at_end);
+}
+
 /* Whether the functions come to what is told of them: those that aren't told are accepted. */
-static bool are_functions_so(struct tansyattic_module *module, const uint8_t *told) {
+static bool are_functions_so(struct tansyattic_module *module, const uint8_t *bytes, const uint8_t *told) {
     uint32_t count = tansyattic_functions(module), imported = tansyattic_imported_functions(module);
     struct answer answer;
     for (uint32_t index = 0; index <= count && index < FUNCTIONS; index++) {
         uint32_t wanted = index < imported || index == count ? TANSYATTIC_NO_BODY : told[index];
         clear(&answer);
-        if (tansyattic_validate_function(module, index, answer.text, TEXT, &answer.verdict) != wanted)
+        if (tansyattic_validate_function(module, index, answer.text, TEXT, &answer.verdict) != wanted ||
+            !is_same_by_operators(module, index, bytes, &answer))
             return false;
     }
     return imported <= count;
 }
 
 /* Whether what is told one after another is as many as the whole says, with its first among them. */
-static bool are_all_told(struct tansyattic_module *module, const struct answer *whole) {
+static bool are_all_told(struct tansyattic_module *module, const uint8_t *bytes, const struct answer *whole) {
     static uint8_t told[FUNCTIONS];
     memset(told, 0, sizeof told);
     size_t position = 0;
@@ -162,7 +203,7 @@ static bool are_all_told(struct tansyattic_module *module, const struct answer *
         size_t before = position;
         uint32_t status = tansyattic_validate_next(module, &position, answer.text, TEXT, &answer.verdict);
         if (status == TANSYATTIC_VALID) break;
-        if (position <= before) return false;
+        if (status > TANSYATTIC_NOT_COVERED || position <= before) return false;
         refused += status == TANSYATTIC_INVALID || status == TANSYATTIC_MALFORMED;
         not_covered += status == TANSYATTIC_NOT_COVERED;
         const struct tansyattic_verdict *v = &answer.verdict;
@@ -170,7 +211,7 @@ static bool are_all_told(struct tansyattic_module *module, const struct answer *
         is_first_told |= tells_the_same(&answer, whole);
     }
     return is_first_told && refused == whole->verdict.refused && not_covered == whole->verdict.not_covered &&
-           are_functions_so(module, told);
+           are_functions_so(module, bytes, told);
 }
 
 static uint64_t read_modules;
@@ -188,9 +229,31 @@ static bool is_right(const uint8_t *bytes) {
     if (status != TANSYATTIC_VALID) return module.at == NULL && is_same(&loaded, &at_once);
     ++read_modules;
     tansyattic_validate_module(&module, whole.text, TEXT, &whole.verdict);
-    bool right = is_same(&whole, &at_once) && are_all_told(&module, &whole);
+    bool right = is_same(&whole, &at_once) && are_all_told(&module, bytes, &whole);
     tansyattic_free(&module);
     return right && module.at == NULL;
+}
+
+/* Calls on a function in any order, over bytes of the module. */
+static void call_in_any_order(struct tansyattic_module *module, const uint8_t *bytes) {
+    struct tansyattic_function function = TANSYATTIC_NONE;
+    struct tansyattic_verdict v;
+    uint64_t first, behind;
+    for (int calls = 0; calls < 12; calls++) {
+        size_t at = below(length + 1), taken;
+        uint32_t small = (uint32_t)below(4);
+        struct tansyattic_type type = {.code = (uint32_t)(0x68 + below(0x18)), .nullable = small & 1};
+        switch (below(8)) {
+        case 0: tansyattic_begin(module, small, &function, NULL, 0, &v); break;
+        case 1: tansyattic_begin_body(module, small, &function, &first, &behind, NULL, 0, &v); break;
+        case 2: tansyattic_define_locals(&function, small, &type, at, NULL, 0, &v); break;
+        case 3: tansyattic_finish(&function, at, NULL, 0, &v); break;
+        case 4: tansyattic_op(&function, bytes + at, length - at, at, &taken, NULL, 0, &v); break;
+        default: tansyattic_try_op(&function, bytes + at, length - at, at, &taken, NULL, 0, &v);
+        }
+        picture_of(&function);
+    }
+    tansyattic_free_function(&function);
 }
 
 /* Whether the calls come back, with all memory, where a request is refused, and say no less than with ample memory. */
@@ -205,6 +268,7 @@ static bool is_right_without_memory(const uint8_t *bytes) {
     size_t position = below(4);
     tansyattic_validate_next(&module, &position, answer.text, TEXT, &answer.verdict);
     tansyattic_validate_module(&module, answer.text, below(TEXT), &answer.verdict);
+    call_in_any_order(&module, bytes);
     until_refused = 0;
     tansyattic_free(&module);
     return answer.verdict.status <= TANSYATTIC_NOT_LOADED;
@@ -231,6 +295,15 @@ static void tell_number(int signal) {
     _exit(write(2, line, (size_t)count) == count ? 3 : 4);
 }
 
+/* Finds where the operators of the last body stand. */
+static void find_operators(struct tansyattic_module *module, struct bytes *base) {
+    struct tansyattic_function function = TANSYATTIC_NONE;
+    struct tansyattic_verdict verdict;
+    uint32_t count = tansyattic_functions(module);
+    if (count != 0) tansyattic_begin_body(module, count - 1, &function, &base->first, &base->behind, NULL, 0, &verdict);
+    tansyattic_free_function(&function);
+}
+
 static void read_base(const char *name) {
     struct bytes *base = &bases[base_count++];
     struct tansyattic_module module = TANSYATTIC_NONE;
@@ -242,6 +315,7 @@ static void read_base(const char *name) {
     if (tansyattic_load(base->at, base->length, TANSYATTIC_FEATURES_ALL, &module, NULL, 0, &verdict) !=
         TANSYATTIC_VALID)
         return;
+    find_operators(&module, base);
     tansyattic_free(&module);
     struct bytes first = bases[readable_count];
     bases[readable_count++] = *base;
@@ -272,7 +346,8 @@ int main(int count, char **words) {
     uint64_t number = 0;
     for (double end = seconds() + (double)only; number % 1024 != 0 || seconds() < end; number++)
         check_module(seed, number, &wrong);
-    printf("seed %" PRIu64 ": %" PRIu64 " modules, %" PRIu64 " read, %" PRIu64 " wrong\n", seed, number, read_modules,
-           wrong);
-    return wrong != 0 || read_modules == 0;
+    printf("seed %" PRIu64 ": %" PRIu64 " modules, %" PRIu64 " read, %" PRIu64 " operators one by one, %" PRIu64
+           " wrong\n",
+           seed, number, read_modules, operators, wrong);
+    return wrong != 0 || read_modules == 0 || operators == 0;
 }

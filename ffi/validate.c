@@ -1,6 +1,6 @@
-/* Tells of each module that is named what isn't accepted, with all proposals on, and how much came to what; behind
- * `-f INDEX`, what the body of one of its functions comes to. Ends with the greatest status, and with 7 where a file
- * can't be read or a word isn't understood.
+/* Tells of each module that is named what isn't accepted, with upstream's default proposals on, and how much came to
+ * what; behind `-f INDEX`, what the body of one of its functions comes to. Ends with the greatest status, and with 7
+ * where a file can't be read or a word isn't understood.
  *
  *     gcc -O2 -o validate ffi/validate.c ffi/memory.c crates/tansyattic/out/libtansyattic.a
  */
@@ -48,9 +48,10 @@ static uint32_t check_module(const char *name, struct tansyattic_module *module)
     uint32_t status = tansyattic_validate_module(module, NULL, 0, &v);
     uint64_t accepted = v.accepted, refused = v.refused, not_covered = v.not_covered;
     size_t position = 0;
-    if (status != TANSYATTIC_VALID)
-        while (tansyattic_validate_next(module, &position, text, sizeof text, &v) != TANSYATTIC_VALID)
-            print_told(name, &v, text);
+    uint32_t next;
+    while ((next = tansyattic_validate_next(module, &position, text, sizeof text, &v)) != TANSYATTIC_VALID &&
+           next <= TANSYATTIC_NOT_COVERED)
+        print_told(name, &v, text);
     printf("%s: %" PRIu64 " accepted, %" PRIu64 " refused, %" PRIu64 " not covered\n", name, accepted, refused,
            not_covered);
     return status;
@@ -78,7 +79,7 @@ static uint32_t check(const char *name, const uint32_t *function) {
     }
     struct tansyattic_module module = TANSYATTIC_NONE;
     struct tansyattic_verdict v;
-    uint32_t status = tansyattic_load(bytes, length, TANSYATTIC_FEATURES_ALL, &module, text, sizeof text, &v);
+    uint32_t status = tansyattic_load(bytes, length, TANSYATTIC_FEATURES_DEFAULT, &module, text, sizeof text, &v);
     if (status != TANSYATTIC_VALID)
         print_told(name, &v, text);
     else if (function == NULL)

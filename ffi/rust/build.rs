@@ -41,7 +41,7 @@ fn main() {
             println!("cargo::error={ARCHIVE} isn't in {}", folder.display());
         }
         println!(
-            "cargo::error=ffi/build in the tree makes it; {FOLDER} names the folder of one that is kept"
+            "cargo::error=ffi/build in the tree makes it; or set {FOLDER} to the folder that has it"
         );
         return;
     };

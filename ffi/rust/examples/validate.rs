@@ -1,11 +1,11 @@
-//! Tells of each module that is named what isn't accepted, with all proposals on, and how much came to what; behind
-//! `-f INDEX`, what the body of one of its functions comes to. Ends with the greatest status, and with 7 where a file
-//! can't be read or a word isn't understood.
+//! Tells of each module that is named what isn't accepted, with upstream's default proposals on, and how much came to
+//! what; behind `-f INDEX`, what the body of one of its functions comes to. Ends with the greatest status, and with 7
+//! where a file can't be read or a word isn't understood.
 
 use std::ffi::{OsStr, OsString};
 use std::path::Path;
 use std::process::ExitCode;
-use tansyattic::{Error, ErrorKind, Features, Module, Summary, version};
+use tansyattic::{Error, ErrorKind, Module, Summary, version};
 
 const FAILED: u8 = 7;
 
@@ -51,7 +51,7 @@ fn check(path: &OsStr, function: Option<u32>) -> u8 {
         println!("{name}: can't be read");
         return FAILED;
     };
-    let module = match Module::parse_with_features(&bytes, Features::all()) {
+    let module = match Module::parse(&bytes) {
         Ok(module) => module,
         Err(error) => return report(name, &error),
     };

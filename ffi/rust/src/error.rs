@@ -1,6 +1,8 @@
 //! Why something isn't accepted.
 
+use crate::name::OperatorName;
 use crate::raw::Verdict;
+use crate::reason::Reason;
 use alloc::borrow::Cow;
 use alloc::string::String;
 use core::fmt;
@@ -13,15 +15,15 @@ const NO_TEXT: &str = "no memory for the text";
 #[derive(Clone, Copy, Debug, PartialEq, Eq, Hash)]
 #[non_exhaustive]
 pub enum ErrorKind {
-    /// What the module declares isn't valid, or a body or a constant expression.
+    /// What the module declares isn't valid, or a body or a constant expression, or an operator.
     Invalid,
-    /// The bytes aren't those of a module.
+    /// The bytes aren't those of a module, or of an operator.
     Malformed,
     /// There was no memory for the check: nothing is known.
     OutOfMemory,
     /// A vector operator, which isn't covered, stands behind operators that are accepted.
     NotCovered,
-    /// The module has no body for the function: it is imported, or isn't there.
+    /// The module has no body for the function: it is imported, isn't there, or was declared without bodies.
     NoBody,
 }
 
@@ -41,6 +43,9 @@ pub enum Item {
     Element(u64),
     /// That of the offset of the data segment at this index.
     DataOffset(u64),
+    /// A function, or a constant expression, that isn't one of the module's: a [`Function`](crate::Function) that is
+    /// being written.
+    NewFunction,
     /// The module as a whole.
     Module,
 }
@@ -51,6 +56,12 @@ pub enum Item {
 /// let error = tansyattic::validate(b"no module").unwrap_err();
 /// assert_eq!(error.offset(), 0);
 /// assert_eq!(error.to_string(), "magic header not detected (at offset 0x0)");
+///
+/// // (func $f i32.add)
+/// let bytes = b"\0asm\x01\0\0\0\x01\x04\x01\x60\0\0\x03\x02\x01\0\x0a\x05\x01\x03\0\x6a\x0b\0\x0b\x04name\x01\x04\x01\0\x01f";
+/// let error = tansyattic::validate(bytes).unwrap_err();
+/// assert_eq!(error.operator(), Some("i32.add"));
+/// assert_eq!(error.function_name(), Some("f"));
 /// ```
 #[derive(Clone, Debug, PartialEq, Eq)]
 pub struct Error {
@@ -58,20 +69,26 @@ pub struct Error {
     item: Item,
     offset: u64,
     message: Cow<'static, str>,
+    reason: Option<Reason>,
+    operator: OperatorName,
+    function_name: Option<String>,
 }
 
 /// A text of its own, if there is memory for it. The bytes end within a letter where the text was cut.
 fn owned_text(written: &[u8]) -> Cow<'static, str> {
-    let text = match str::from_utf8(written) {
+    owned(written).map_or(Cow::Borrowed(NO_TEXT), Cow::Owned)
+}
+
+/// The text that these bytes are up to the first that is none, if there is memory for it.
+pub(crate) fn owned(bytes: &[u8]) -> Option<String> {
+    let text = match str::from_utf8(bytes) {
         Ok(text) => text,
-        Err(error) => str::from_utf8(&written[..error.valid_up_to()]).unwrap_or_default(),
+        Err(error) => str::from_utf8(&bytes[..error.valid_up_to()]).unwrap_or_default(),
     };
-    let mut message = String::new();
-    if message.try_reserve_exact(text.len()).is_err() {
-        return Cow::Borrowed(NO_TEXT);
-    }
-    message.push_str(text);
-    Cow::Owned(message)
+    let mut owned = String::new();
+    owned.try_reserve_exact(text.len()).ok()?;
+    owned.push_str(text);
+    Some(owned)
 }
 
 impl Error {
@@ -87,7 +104,9 @@ impl Error {
         self.item
     }
 
-    /// Where it is, from the first byte of the module. It is 0 for want of memory, and for a body that isn't there.
+    /// Where it is, from the first byte of the module. Of a call on a [`Function`](crate::Function), it is the offset
+    /// that the call was given or, if the bytes are malformed, that of the byte inside the operator. It is 0 if memory
+    /// ran out, and for a body that isn't there.
     #[must_use]
     pub fn offset(&self) -> u64 {
         self.offset
@@ -97,6 +116,64 @@ impl Error {
     #[must_use]
     pub fn message(&self) -> &str {
         &self.message
+    }
+
+    /// Why the rule of an operator refuses it. None if none does: the bytes aren't an operator's, or what a module
+    /// declares is wrong, or the order of calls is.
+    #[must_use]
+    pub fn reason(&self) -> Option<Reason> {
+        self.reason
+    }
+
+    /// The name of the operator whose rule refuses it, if one does.
+    #[must_use]
+    pub fn operator(&self) -> Option<&str> {
+        let name = self.operator.as_str();
+        (!name.is_empty()).then_some(name)
+    }
+
+    /// The function's name, if it is about one to which the module gives a name.
+    #[must_use]
+    pub fn function_name(&self) -> Option<&str> {
+        self.function_name.as_deref()
+    }
+
+    /// Out of memory, of the module as a whole.
+    pub(crate) const fn out_of_memory() -> Error {
+        Error {
+            kind: ErrorKind::OutOfMemory,
+            item: Item::Module,
+            offset: 0,
+            message: Cow::Borrowed("out of memory"),
+            reason: None,
+            operator: OperatorName::NONE,
+            function_name: None,
+        }
+    }
+
+    /// The same, about this.
+    pub(crate) fn about(self, item: Item) -> Error {
+        Error { item, ..self }
+    }
+
+    /// The same with the name of the operator that the bytes begin with, if it is an operator that is refused.
+    pub(crate) fn of_operator(self, bytes: &[u8]) -> Error {
+        let operator = match self.reason {
+            None | Some(Reason::OutOfMemory) => None,
+            Some(_) => OperatorName::of_bytes(bytes),
+        };
+        Error {
+            operator: operator.unwrap_or(OperatorName::NONE),
+            ..self
+        }
+    }
+
+    /// The same with the function's name.
+    pub(crate) fn of_function_name(self, function_name: Option<String>) -> Error {
+        Error {
+            function_name,
+            ..self
+        }
     }
 
     /// What a verdict reports, unless it is an acceptance. The text stands behind no more than these bytes.
@@ -118,12 +195,14 @@ impl Error {
             5 => Item::DataOffset(verdict.index),
             _ => Item::Module,
         };
-        let written = &text[..verdict.text_length.min(text.len())];
         Some(Error {
             kind,
             item,
             offset: verdict.offset,
-            message: owned_text(written),
+            message: owned_text(text),
+            reason: Reason::of_raw(verdict.reason),
+            operator: OperatorName::NONE,
+            function_name: None,
         })
     }
 }
@@ -145,6 +224,7 @@ impl fmt::Display for Item {
             Item::ElementOffset(index) => write!(f, "elem offset {index}"),
             Item::Element(index) => write!(f, "elem item {index}"),
             Item::DataOffset(index) => write!(f, "data offset {index}"),
+            Item::NewFunction => write!(f, "function"),
             Item::Module => write!(f, "module"),
         }
     }

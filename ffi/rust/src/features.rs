@@ -59,7 +59,8 @@ features! {
 }
 
 impl Features {
-    /// What upstream's `WasmFeatures::default()` has of them: the proposals of the standard's version 3.0, and threads.
+    /// What upstream's `WasmFeatures::default()` has of them: the proposals of the standard's version 3.0, and
+    /// threads.
     pub const DEFAULT: Features = Features::empty()
         .union(Features::MULTI_VALUE)
         .union(Features::FLOATS)

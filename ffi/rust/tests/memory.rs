@@ -1,9 +1,9 @@
-//! Whichever request for memory is refused, an answer is what it is with memory, or want of memory, or lacks its text. The
-//! test is alone in its program, since it refuses the requests of the whole of it.
+//! Whichever request for memory is refused, an answer is what it is with memory, or out of memory, or lacks its text
+//! or a name. The test is alone in its program, since it refuses the requests of the whole of it.
 
 use std::alloc::{GlobalAlloc, Layout, System};
 use std::cell::Cell;
-use tansyattic::{Error, ErrorKind, Module, validate};
+use tansyattic::{Error, ErrorKind, Module, ValType, validate};
 
 thread_local! {
     /// How many requests of this thread are met before one is refused.
@@ -57,49 +57,77 @@ fn refusing<T>(met: usize, call: impl FnOnce() -> T) -> (T, bool) {
     (answer, is_refused)
 }
 
-/// Whether an error says what another says, its text aside, which may be missing.
+const NO_TEXT: &str = "no memory for the text";
+
+/// Whether an error says what another says, its text and names aside, which may be missing.
 fn is_like(error: &Error, other: &Error) -> bool {
-    let has_text =
-        error.message() == other.message() || error.message() == "no memory for the text";
-    has_text
-        && (error.kind(), error.item(), error.offset())
-            == (other.kind(), other.item(), other.offset())
+    let has_text = error.message() == other.message() || error.message() == NO_TEXT;
+    let has_name = error
+        .function_name()
+        .is_none_or(|name| Some(name) == other.function_name());
+    let parts = |error: &Error| (error.kind(), error.item(), error.offset(), error.reason());
+    has_text && has_name && parts(error) == parts(other)
 }
 
-/// Makes a call with each of its requests refused, one at a time, and counts them, and the answers without a text.
-fn refuse_each(call: impl Fn() -> Result<(), Error>) -> (usize, usize) {
+/// How many requests a call makes, and how many of its answers lacked their text, or a name, if each was refused
+/// alone.
+#[derive(Default)]
+struct Lacks {
+    requests: usize,
+    textless: usize,
+    nameless: usize,
+}
+
+/// Makes a call with each of its requests refused, one at a time.
+fn refuse_each(call: impl Fn() -> Result<(), Error>) -> Lacks {
     let ample = call();
-    let mut textless = 0;
+    let mut lacks = Lacks::default();
     for met in 0.. {
         let (answer, is_refused) = refusing(met, &call);
         if !is_refused {
             assert_eq!(answer, ample);
-            return (met, textless);
+            break;
         }
+        lacks.requests += 1;
         let error = answer.expect_err("a request was refused");
-        let is_want = error.kind() == ErrorKind::OutOfMemory;
-        assert!(
-            is_want || ample.as_ref().is_err_and(|other| is_like(&error, other)),
-            "request {met}: {error}"
-        );
-        textless += usize::from(!is_want);
+        if error.kind() == ErrorKind::OutOfMemory {
+            continue;
+        }
+        let is_right = ample.as_ref().is_err_and(|other| is_like(&error, other));
+        assert!(is_right, "request {met}: {error}");
+        lacks.textless += usize::from(error.message() == NO_TEXT);
+        lacks.nameless += usize::from(error.function_name().is_none());
     }
-    unreachable!()
+    lacks
 }
 
-/// Two functions, [] -> [] and [] -> [i32]; the second gives no value.
+/// Two functions, [] -> [] and [] -> [i32]; the second gives no value, and has the name `f`.
 const REFUSED: &[u8] =
-    b"\0asm\x01\0\0\0\x01\x08\x02\x60\0\0\x60\0\x01\x7f\x03\x03\x02\0\x01\x0a\x07\x02\x02\0\x0b\x02\0\x0b";
+    b"\0asm\x01\0\0\0\x01\x08\x02\x60\0\0\x60\0\x01\x7f\x03\x03\x02\0\x01\x0a\x07\x02\x02\0\x0b\x02\0\x0b\0\x0b\x04name\x01\x04\x01\x01\x01f";
+
+/// Begins a function, and takes operators until its stacks have grown more than once.
+fn grow(module: &Module) -> Result<(), Error> {
+    let mut function = module.function(0)?;
+    function.define_locals(1, ValType::I64, 0)?;
+    for at in 0..100 {
+        function.try_op(&[0x41, 0], at)?; // i32.const
+        function.op(&[0x02, 0x40], at)?; // block
+    }
+    Ok(())
+}
 
 #[test]
 fn answers_whichever_request_is_refused() {
     let sum = include_bytes!("../../../examples/sum.wasm");
-    let (requests, textless) = refuse_each(|| validate(sum));
-    assert!(requests > 0 && textless == 0);
-    let (requests, textless) = refuse_each(|| validate(REFUSED));
-    assert!(requests > 1 && textless == 1);
-    assert_eq!(refuse_each(|| validate(b"this is no module")), (1, 1));
+    let lacks = refuse_each(|| validate(sum));
+    assert!(lacks.requests > 0 && lacks.textless == 0);
+    let lacks = refuse_each(|| validate(REFUSED));
+    assert!(lacks.requests > 1 && lacks.textless == 1 && lacks.nameless > 0);
+    let lacks = refuse_each(|| validate(b"this is no module"));
+    assert_eq!((lacks.requests, lacks.textless), (1, 1));
     let module = Module::parse(REFUSED).unwrap();
-    let (requests, textless) = refuse_each(|| module.validate_function(1));
-    assert!(requests > 1 && textless == 1);
+    let lacks = refuse_each(|| module.validate_function(1));
+    assert!(lacks.requests > 1 && lacks.textless == 1 && lacks.nameless > 0);
+    let lacks = refuse_each(|| grow(&module));
+    assert!(lacks.requests > 3 && lacks.textless == 0);
 }

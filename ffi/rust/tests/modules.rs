@@ -1,7 +1,8 @@
 //! What the crate says of small modules, with the offsets and upstream's texts for them.
 
+use std::sync::Arc;
 use std::thread;
-use tansyattic::{Error, ErrorKind, Features, Item, Module, Summary, Validator, validate};
+use tansyattic::{Error, ErrorKind, Features, Item, Module, Reason, Summary, Validator, validate};
 
 /// A module of these bytes behind the header.
 fn module(sections: &[u8]) -> Vec<u8> {
@@ -173,18 +174,86 @@ fn has_named_features() {
 }
 
 #[test]
-fn may_have_a_clone_for_each_thread() {
+fn may_be_checked_by_several_threads() {
     let bytes = imported();
     let module = Module::parse(&bytes).unwrap();
     thread::scope(|scope| {
-        for _ in 0..4 {
-            let module = module.clone();
+        for turn in 0..4 {
+            let module = &module;
             scope.spawn(move || {
-                for _ in 0..1000 {
+                let clone = module.clone();
+                for round in 0..1000 {
+                    let module = if (turn + round) % 2 == 0 {
+                        module
+                    } else {
+                        &clone
+                    };
                     assert_eq!(module.validate_function(1), Ok(()));
                     assert_eq!(parts(&module.validate_function(2).unwrap_err()), DROPS);
                 }
             });
         }
     });
+}
+
+#[test]
+fn may_share_its_bytes() {
+    let modules: Vec<Module<'static>> = [imported(), vector(), global()]
+        .into_iter()
+        .map(|bytes| Module::parse_shared(Arc::from(bytes), Features::DEFAULT).unwrap())
+        .collect();
+    let clones = modules.clone();
+    drop(modules);
+    let kinds: Vec<Option<ErrorKind>> = clones
+        .iter()
+        .map(|module| module.validate().err().map(|error| error.kind()))
+        .collect();
+    assert_eq!(
+        kinds,
+        [
+            Some(ErrorKind::Invalid),
+            Some(ErrorKind::NotCovered),
+            Some(ErrorKind::Invalid)
+        ]
+    );
+    assert_eq!(clones[0].bytes(), imported());
+}
+
+/// One function, $f [] -> [], with this body and this name section behind it.
+fn named(name: &str) -> Vec<u8> {
+    let length = u8::try_from(name.len()).unwrap();
+    let function = b"\x01\x04\x01\x60\0\0\x03\x02\x01\0\x0a\x05\x01\x03\0\x6a\x0b";
+    let names = [
+        &[length + 10, 4][..],
+        b"name",
+        &[1, length + 3, 1, 0, length],
+    ]
+    .concat();
+    module(&[&function[..], &[0], &names, name.as_bytes()].concat())
+}
+
+#[test]
+fn names_operator_and_function_of_an_error() {
+    for name in ["f", &"n".repeat(115)] {
+        let bytes = named(name);
+        let module = Module::parse(&bytes).unwrap();
+        assert_eq!(module.function_name(0).as_deref(), Some(name));
+        assert_eq!(module.function_name(1), None);
+        for error in [
+            validate(&bytes).unwrap_err(),
+            module.validate_function(0).unwrap_err(),
+            module.errors().next().unwrap(),
+            module.operators(0).unwrap().next().unwrap().unwrap_err(),
+        ] {
+            assert_eq!(error.reason(), Some(Reason::NothingFound));
+            assert_eq!(error.operator(), Some("i32.add"));
+            assert_eq!(error.function_name(), Some(name));
+            assert_eq!((error.item(), error.offset()), (Item::Function(0), 0x17));
+        }
+    }
+    let error = validate(b"this is no module").unwrap_err();
+    assert_eq!(
+        (error.reason(), error.operator(), error.function_name()),
+        (None, None, None)
+    );
 }

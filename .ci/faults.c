@@ -9,7 +9,7 @@
    - a write to standard error fails: the status and standard output stay;
    - reads and writes move one byte each, or are interrupted: the answer stays.
 
-   Of wasmcheck, which runs with `-v`, where it differs:
+   Of wasmcheck, which runs with `-v`, all proposals, `--explain` and `--trace=0`, where it differs:
 
    - a request for memory is refused: status 3, and whole lines, each of the ample output but those that end in
      `out of memory`;
@@ -83,12 +83,13 @@ static int run(struct faults these) {
     pid_t child = fork();
     if (child < 0) _exit(2);
     if (child == 0) {
-        char *arguments[] = {is_of_modules ? "wasmcheck" : "opcheck", is_of_modules ? "-v" : NULL, NULL};
+        char *of_modules[] = {"wasmcheck", "-v", "--features=all", "--explain", "--trace=0", NULL};
+        char *of_scripts[] = {"opcheck", NULL};
         char *environment[] = {NULL};
         alarm(10);
         faults = these;
         is_running = 1;
-        _exit(program(is_of_modules ? 2 : 1, arguments, environment));
+        _exit(is_of_modules ? program(5, of_modules, environment) : program(1, of_scripts, environment));
     }
     int status;
     waitpid(child, &status, 0);

@@ -1,26 +1,30 @@
 /* A test under want of memory. It is loaded before a program of tests (LD_PRELOAD), and stands in for its main, its
    requests for memory and its writes. The test that is named to the program is run once; at each of its requests a child
-   goes on in its place, in which this request is refused. The test has to end with an error, and no expectation of it may
-   fail: a growth that is made good, or that is tried again, lets the test pass, and so is wrong.
+   goes on in its place, in which this request is refused:
 
-   A test that says `there is no memory` makes no request until it says `there is memory again`: each is refused, and is
-   wrong.
+   - the test ends with an error, and no expectation of it fails;
+   - before it ends no other request is made. So want of memory is answered for this request and there, nothing is tried
+     again, and what the test looks at behind it takes no memory.
+
+   A test that says `there is memory again` may make requests from there on. One that says `there is no memory` makes none
+   until then: each is refused, and is wrong.
 
    A crash, or a minute without an end, is wrong. Prints a line for the test: `NAME: N requests, M wrong`. */
 #include "interposed.h"
 
 /* What the program says of a test that ends with an error, and what the harness says of a child. */
 static const char *by_result = "its result gives status";
+static const char asked_again[] = "a request behind the refused one\n";
 static const char asked_nothing[] = "a request where there is no memory\n";
 
-static int is_running, is_child, is_barred;
+static int is_running, is_child, is_wanting, is_barred;
 static long requests, wrong;
 static int said;
 
 ssize_t write(int fd, const void *from, size_t size) {
     static ssize_t (*original_write)(int, const void *, size_t);
     if (!original_write) original_write = original("write");
-    if (is_running && memmem(from, size, "there is memory again", 21)) is_barred = 0;
+    if (is_running && memmem(from, size, "there is memory again", 21)) is_wanting = is_barred = 0;
     if (is_running && memmem(from, size, "there is no memory", 18)) is_barred = 1;
     return original_write(fd, from, size);
 }
@@ -47,7 +51,7 @@ static int go_on_refused(void) {
     pid_t child = fork();
     if (child < 0) _exit(2);
     if (child == 0) {
-        is_child = 1;
+        is_child = is_wanting = 1;
         alarm(60);
         dup2(said, 1);
         dup2(said, 2);
@@ -69,6 +73,7 @@ static int is_refused(void) {
     if (!is_running) return 0;
     if (is_barred && is_child) end_wrong(asked_nothing, sizeof asked_nothing - 1);
     if (is_barred) return ++wrong, 1;
+    if (is_child && is_wanting) end_wrong(asked_again, sizeof asked_again - 1);
     if (is_child) return 0;
     ++requests;
     return go_on_refused();

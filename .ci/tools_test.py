@@ -1,0 +1,174 @@
+#!/usr/bin/env python3
+"""Tests of the tools that try wrong bodies and planted changes: what they find in a crate's text, which edits they take, and
+what counts as a refusal."""
+
+import importlib.machinery
+import importlib.util
+import tempfile
+import unittest
+from pathlib import Path
+
+import edits
+import functions
+from crates import ROOT, Unusable, below
+
+SOURCE = """//! A crate.
+/// Doubles.
+#[inline]
+pub fn double(n: u32) -> u32
+    ensures twice { result ≡ n + n }
+{
+    n + n
+}
+
+impl Counter {
+    ghost use Rattle.counts.specs.Count.{count};
+
+    /// Counts.
+    fn add(&mut self) -> u32
+        ensures { result ≡ 1 }
+        ensures* kept { self.new.limit ≡ self.old.limit }
+    {
+        double(1)
+    }
+}
+
+impl<T: Show> Show for Pair<T> {
+    fn show(&self) -> u32 {
+        2
+    }
+}
+
+macro_rules! seen {
+    () => {
+        fn unseen() {}
+    };
+}
+"""
+
+
+def tool(name):
+    """Loads a tool whose file has no ending."""
+    loader = importlib.machinery.SourceFileLoader(name.replace("-", "_"), str(ROOT / ".ci" / name))
+    module = importlib.util.module_from_spec(importlib.util.spec_from_loader(loader.name, loader))
+    loader.exec_module(module)
+    return module
+
+
+class OfACrate(unittest.TestCase):
+    """Tests over a crate with one file, which stands in a repository of its own."""
+
+    def setUp(self):
+        room = tempfile.TemporaryDirectory()
+        self.addCleanup(room.cleanup)
+        self.root = Path(room.name)
+        self.folder = self.root / "crates/counts"
+        (self.folder / "src").mkdir(parents=True)
+        (self.folder / "src/counter.rt").write_text("pub struct Counter {}\n")
+        (self.folder / "src/lib.rt").write_text(SOURCE)
+        for module in (edits, functions):
+            before, module.ROOT = module.ROOT, self.root
+            self.addCleanup(setattr, module, "ROOT", before)
+
+    def named(self, text):
+        """The function that holds a text of the source."""
+        return functions.function_at(self.folder, "src/lib.rt", SOURCE.index(text))
+
+    def body(self, *pairs):
+        """An edit of the source: so many texts with what stands in their place."""
+        return edits.WrongBody("wrong", tuple(("src/lib.rt", *pair) for pair in pairs), frozenset())
+
+
+class Functions(OfACrate):
+    def test_a_function_has_its_name_and_the_lines_from_its_comment_on(self):
+        self.assertEqual(self.named("n + n\n"), functions.Function("src/lib.rt", 2, 8, "double"))
+
+    def test_a_method_is_named_after_the_module_of_its_type(self):
+        self.assertEqual(self.named("double(1)").name, "counter::Counter::add")
+
+    def test_a_method_of_a_trait_is_named_after_both(self):
+        self.assertEqual(self.named("        2\n").name, "PairShow::show")
+
+    def test_a_function_of_a_macro_is_not_seen(self):
+        self.assertIsNone(self.named("fn unseen"))
+
+    def test_clauses_are_named(self):
+        self.assertEqual(functions.clauses("counts", self.named("n + n\n")), ["twice"])
+        self.assertEqual(functions.clauses("counts", self.named("double(1)")), ["ensures", "kept"])
+
+    def test_a_copy_of_a_method_takes_what_its_impl_uses(self):
+        head = functions.copied_impl("counts", self.named("double(1)"))
+        self.assertEqual(head, "impl Counter {\n    ghost use Rattle.counts.specs.Count.{count};")
+
+    def test_a_method_of_a_trait_has_no_copy(self):
+        self.assertIsNone(functions.copied_impl("counts", self.named("        2\n")))
+
+
+class Edits(OfACrate):
+    def test_a_file_may_have_several_places(self):
+        text = "file: src/a.rt\nold: x\nnew: y: z\nfile: src/b.rt\nold: u\nnew: \nbreaks: kept\n"
+        self.assertEqual(edits.pairs_of(text), (("src/a.rt", "x", "y: z"), ("src/b.rt", "u", "")))
+
+    def test_an_edit_changes_its_line_alone(self):
+        lines = edits.edited("counts", self.body(("    n + n", "    n")))["src/lib.rt"]
+        self.assertEqual("\n".join(lines), SOURCE.replace("    n + n\n", "    n\n"))
+
+    def test_a_text_that_stands_twice_is_refused(self):
+        with self.assertRaisesRegex(Unusable, "stands 2 times"):
+            edits.edited("counts", self.body(("n + n", "n")))
+
+    def test_an_edit_that_has_another_number_of_lines_is_refused(self):
+        with self.assertRaisesRegex(Unusable, "more lines, or fewer"):
+            edits.edited("counts", self.body(("    n + n", "    n\n")))
+
+    def test_an_edit_says_what_it_breaks(self):
+        file = self.root / "wrong.edit"
+        file.write_text("file: src/lib.rt\nold:     n + n\nnew:     n\nbreaks: twice of add by reached\n")
+        body = edits.read_body("counts", file)
+        self.assertEqual((body.breaks, body.functions), (("twice", "add", "reached"), {self.named("n + n\n")}))
+        file.write_text("file: src/lib.rt\nold:     n + n\nnew:     n\n")
+        self.assertRaisesRegex(Unusable, "what it breaks", edits.read_body, "counts", file)
+
+
+class Refusals(OfACrate):
+    SAID = "./src/lib.rt:4:1: error: it is not proved that n ≡ n + n (`returns-clause-twice`)\n"
+
+    def setUp(self):
+        super().setUp()
+        self.tool = tool("wrong-bodies")
+        self.tool.ROOT = self.root
+
+    def refused(self, said, breaks):
+        body = edits.WrongBody("wrong", (), frozenset([self.named("n + n\n")]), breaks)
+        return self.tool.refusal("counts", body, self.tool.goals_in(self.folder, said))
+
+    def test_a_goal_of_the_clause_is_a_refusal(self):
+        self.assertIn("returns-clause-twice", self.refused(self.SAID, ("twice", "", "")))
+
+    def test_a_goal_of_another_clause_or_of_another_function_is_none(self):
+        self.assertIsNone(self.refused(self.SAID.replace("-twice", "-kept"), ("twice", "", "")))
+        self.assertIsNone(self.refused(self.SAID.replace(":4:", ":14:"), ("twice", "", "")))
+
+    def test_a_name_that_is_gone_is_none(self):
+        self.assertIsNone(self.refused(self.SAID.replace("n + n", "m is not in scope"), ("twice", "", "")))
+
+    def test_a_clause_may_be_refused_on_the_way_to_it(self):
+        said = self.SAID.replace("returns-clause-twice", "loop-place-behind")
+        self.assertIsNone(self.refused(said, ("twice", "", "")))
+        self.assertIsNotNone(self.refused(said, ("twice", "", "loop-place")))
+
+
+class Graph(unittest.TestCase):
+    USES = {"low": ["bitflags"], "middle": ["low"], "high": ["middle", "low", "core"]}
+
+    def test_what_is_below_stands_once_lowest_first(self):
+        self.assertEqual(below("high", self.USES), (["low", "middle"], ["core"]))
+
+    def test_a_planted_change_goes_by_what_stands_on_it(self):
+        planted = tool("planted")
+        self.assertEqual(planted.between("middle", "high", self.USES), ["middle", "high"])
+        self.assertEqual(planted.between("low", "low", self.USES), ["low"])
+
+
+if __name__ == "__main__":
+    unittest.main()

@@ -1,6 +1,6 @@
-/* Whether a binary WebAssembly module is valid: what it declares, each function's body and each constant expression
- * (docs/EMBEDDING.md). And whether the next operator of a function is: operator by operator, with what lies on its
- * stacks.
+/* Says whether a binary WebAssembly module is valid: what it declares, each function's body and each constant
+ * expression. It also checks a function operator by operator, and shows what lies on its stacks in between.
+ * docs/EMBEDDING.md is the page to read first.
  *
  *     struct tansyattic_module module = TANSYATTIC_NONE;
  *     struct tansyattic_verdict verdict;
@@ -10,7 +10,7 @@
  *         tansyattic_validate_function(&module, 7, text, sizeof text, &verdict);
  *     tansyattic_free(&module);
  *
- * A body that is being written, over a module that has no bodies yet:
+ * A body that is being written, for a module that has no bodies yet:
  *
  *     struct tansyattic_function function = TANSYATTIC_NONE;
  *     size_t taken;
@@ -20,27 +20,28 @@
  *         ..append the operator, which has `taken` bytes, to the body
  *     tansyattic_free_function(&function);
  *
- * What the library was proved for holds where the caller keeps to this, which nothing tests:
+ * What is proved of the library holds if the caller keeps to these conditions, which nothing tests:
  * - `bytes` points at `length` bytes, which nothing writes during the call; those of a module that is loaded stay,
  *   unwritten, until it is freed;
  * - `text` points at `text_length` bytes, and `out` at one verdict: writable, apart from each other and from `bytes`,
  *   and used by nothing else during the call; what stands in them before doesn't matter. The same holds of whatever
  *   else a call writes through a pointer (`taken`, `first`, `behind`, a type, a frame). None of these pointers is
- *   null, but for `bytes` and `text` where their length is 0;
+ *   null; `bytes` and `text` may be null if their length is 0;
  * - a `struct tansyattic_module` and a `struct tansyattic_function` begin as TANSYATTIC_NONE, and the library alone
  *   reads and changes them from then on; they may be moved, but aren't copied;
  * - the three functions at the end mean what is said of them (memory.c has them over malloc, realloc and free);
  * - no call is made from a signal handler, or from the forked child of a process with threads.
  *
- * Threads: a `struct tansyattic_module` is used by one call at a time, from any thread, and so is a `struct
- * tansyattic_function`. tansyattic_share gives a second module for another thread, over the same one, which nothing
- * changes; it is freed with the last of them and the last function that stands on it. What a call uses beside is its
- * own, so several threads may make calls at once, where the three functions allow it, as those of memory.c do.
+ * Threads: a `struct tansyattic_module` is a handle. One call at a time uses it, from any thread; the same holds of a
+ * `struct tansyattic_function`. tansyattic_share makes another handle of the same module, for another thread. Nothing
+ * changes the module, and it is freed with its last handle and the last function that was begun over it. Calls share
+ * nothing else, so several threads may make calls at once if the three functions for memory allow it, as those of
+ * memory.c do.
  *
- * A call returns on all bytes, and gives back all its memory but what a module or a function keeps. None stops the
- * program or unwinds: that nothing goes wrong inside is proved, and not tested as it runs, so where a condition above
- * is broken, or the toolchain has a bug, what a call does is undefined. The archive is built for Linux on x86-64-v2,
- * as position independent code; it has no state of its own, and calls memcpy, memmove and memset.
+ * A call returns on all bytes, and gives back all memory that it took, except what a module or a function keeps. None
+ * stops the program or unwinds. That nothing goes wrong inside is proved, and not tested as it runs: if a condition
+ * above is broken, or the toolchain has a bug, what a call does is undefined. The archive is built for Linux on
+ * x86-64-v2, as position independent code; it has no state of its own, and calls memcpy, memmove and memset.
  */
 #ifndef TANSYATTIC_H
 #define TANSYATTIC_H
@@ -59,12 +60,13 @@ extern "C" {
     (TANSYATTIC_VERSION_MAJOR * 65536 + TANSYATTIC_VERSION_MINOR * 256 + TANSYATTIC_VERSION_PATCH)
 
 enum tansyattic_status {
-    TANSYATTIC_VALID = 0,         /* the module is valid; of one body: what the module declares, and it; of an operator:
-                                   * it is accepted */
-    TANSYATTIC_INVALID = 1,       /* what it declares isn't, or a body, a constant expression or the operator */
+    TANSYATTIC_VALID = 0,         /* the module is valid; of one body: it is, and so is what the module declares; of an
+                                   * operator: it is accepted */
+    TANSYATTIC_INVALID = 1,       /* what the module declares isn't valid, or a body, a constant expression or the
+                                   * operator isn't */
     TANSYATTIC_MALFORMED = 2,     /* the bytes aren't those of a module, or begin with no operator */
-    TANSYATTIC_OUT_OF_MEMORY = 3, /* there was no memory for the check: nothing is known */
-    TANSYATTIC_NOT_COVERED = 4,   /* nothing is refused, and there is a vector operator, which isn't covered */
+    TANSYATTIC_OUT_OF_MEMORY = 3, /* memory ran out: nothing is known */
+    TANSYATTIC_NOT_COVERED = 4,   /* nothing is refused, but there is a vector operator: those aren't covered */
     TANSYATTIC_NO_BODY = 5,       /* the module has no body for the function: it is imported, isn't there, or was
                                    * declared without bodies */
     TANSYATTIC_NOT_LOADED = 6     /* there is no module, or no function */
@@ -77,11 +79,12 @@ enum tansyattic_kind {
     TANSYATTIC_ELEMENT_OFFSET = 3, /* that of the offset of an element segment */
     TANSYATTIC_ELEMENT = 4,        /* that of an item of one */
     TANSYATTIC_DATA_OFFSET = 5,    /* that of the offset of a data segment */
-    TANSYATTIC_MODULE = 6          /* the module as a whole; and of a call on a function */
+    TANSYATTIC_MODULE = 6          /* the module as a whole; also of a call on a function */
 };
 
-/* Why an operator is refused: a number for each reason, beside the text. Numbers are only added, within a major
- * version. NONE where no rule of an operator refused: the bytes, a declaration, a look-up or a lack of memory did. */
+/* Why an operator is refused: a number for each reason, beside the text. Within a major version, numbers are only
+ * added. It is NONE if no rule of an operator refused, but the bytes, a declaration or a look-up did, or memory ran
+ * out. */
 enum tansyattic_reason {
     TANSYATTIC_REASON_NONE = 0,
     TANSYATTIC_REASON_OUT_OF_MEMORY = 1,
@@ -183,8 +186,8 @@ enum tansyattic_reason {
     TANSYATTIC_REASON_OTHER_SWITCH_TAG = 97
 };
 
-/* A set of proposals: those that are on. Other bits than these say nothing. BULK_MEMORY brings what BULK_MEMORY_OPT
- * lets in alone, memory.copy and memory.fill. */
+/* A set of proposals: those that are on. All other bits are ignored. BULK_MEMORY also lets in what BULK_MEMORY_OPT
+ * does, memory.copy and memory.fill. */
 #define TANSYATTIC_FEATURE_MULTI_VALUE               (UINT32_C(1) << 0)
 #define TANSYATTIC_FEATURE_FLOATS                    (UINT32_C(1) << 1)
 #define TANSYATTIC_FEATURE_SIMD                      (UINT32_C(1) << 2)
@@ -221,19 +224,20 @@ enum tansyattic_reason {
      TANSYATTIC_FEATURE_FUNCTION_REFERENCES | TANSYATTIC_FEATURE_GC | TANSYATTIC_FEATURE_MUTABLE_GLOBAL | \
      TANSYATTIC_FEATURE_MEMORY64 | TANSYATTIC_FEATURE_MULTI_MEMORY | TANSYATTIC_FEATURE_EXTENDED_CONST)
 
-/* What a check comes to. What is reported is the first of those that weigh most: out of memory, then what is
- * malformed, then what is invalid, then what isn't covered. Of a valid module nothing is. */
+/* The answer of a check. It reports one thing that isn't accepted, the gravest one, and of equally grave ones the
+ * first. The gravest is out of memory; then come malformed, invalid and not covered. For a valid module it reports
+ * nothing. */
 struct tansyattic_verdict {
     uint32_t status;              /* a tansyattic_status */
     uint32_t kind;                /* what is reported: a tansyattic_kind */
-    uint32_t reason;              /* why, where an operator's rule refuses: a tansyattic_reason */
+    uint32_t reason;              /* why, if the rule of an operator refuses it: a tansyattic_reason */
     uint64_t index;               /* the index of the function, table, global or segment */
-    uint64_t offset;              /* where, from the first byte of the module; of a call on a function, as it counts */
-    size_t text_length;           /* so many bytes of the text were written, */
-    size_t text_needed;           /* of so many that it has */
-    uint64_t accepted;            /* so many bodies and constant expressions are accepted, */
-    uint64_t refused;             /* so many refused (what the module declares counts for one), */
-    uint64_t not_covered;         /* and so many not covered */
+    uint64_t offset;              /* where, from the first byte of the module; of a call on a function, see there */
+    size_t text_length;           /* how many bytes of the text were written */
+    size_t text_needed;           /* how many bytes the whole text has */
+    uint64_t accepted;            /* how many bodies and constant expressions are accepted */
+    uint64_t refused;             /* how many are refused; what the module declares counts as one */
+    uint64_t not_covered;         /* how many aren't covered */
 };
 
 /* A module that was read, or none. */
@@ -241,8 +245,8 @@ struct tansyattic_module {
     void *at; /* the library's own: null for none */
 };
 
-/* A function, or a constant expression, that is being validated operator by operator, or none. It keeps a share of the
- * module that it stands on. */
+/* A function, or a constant expression, that is being validated operator by operator, or none. It keeps the module over
+ * which it was begun. */
 struct tansyattic_function {
     void *at; /* the library's own: null for none */
 };
@@ -276,11 +280,12 @@ enum tansyattic_type_code {
 struct tansyattic_type {
     uint32_t code;    /* a tansyattic_type_code */
     uint32_t index;   /* with INDEX: which type. Of equal types the library shows the first */
-    uint8_t nullable; /* of a reference: whether null is one of its values, */
-    uint8_t shared;   /* whether it is to the shared copy of the abstract type, */
-    uint8_t exact;    /* and, with INDEX, whether types declared below it are left out. Each is 0 or 1: any other than 0
-                       * is read as 1, and one that isn't of this type is not read, and shown as 0 */
-    uint8_t reserved; /* not read, and shown as 0 */
+    /* The next three are 0 or 1. Any value but 0 is read as 1. One that means nothing for this type isn't read, and is
+     * shown as 0. */
+    uint8_t nullable; /* of a reference: whether null is one of its values */
+    uint8_t shared;   /* of a reference to an abstract type: whether it is to the shared copy */
+    uint8_t exact;    /* with INDEX: whether the types declared below that one are left out */
+    uint8_t reserved; /* isn't read, and is shown as 0 */
 };
 
 /* What opened a frame, or which part of it is open. */
@@ -302,7 +307,7 @@ enum tansyattic_block_kind {
 };
 
 struct tansyattic_frame {
-    uint64_t height;                   /* so many operands lie below its own */
+    uint64_t height;                   /* how many operands lie below its own */
     uint32_t kind;                     /* a tansyattic_frame_kind */
     uint32_t block_kind;               /* a tansyattic_block_kind */
     uint32_t block_index;              /* 0 where it isn't of BLOCK_FUNCTION */
@@ -310,54 +315,54 @@ struct tansyattic_frame {
     struct tansyattic_type block_type; /* all 0 where it isn't of BLOCK_VALUE */
 };
 
-/* Each call below that has a text writes that of what is reported: UTF-8 with no zero behind it, cut where there is no
- * more room (100 bytes hold most texts). It answers the status of the verdict that it writes. */
+/* Each call below that takes a `text` writes there the text of what is reported: UTF-8, without a zero at the end, and
+ * cut if there isn't enough room. Most texts have at most 100 bytes. The call returns the status of the verdict. */
 
 /* Checks a module: what it declares, each body and each constant expression. */
 static inline uint32_t tansyattic_validate(const uint8_t *bytes, size_t length, uint32_t features, uint8_t *text,
                                            size_t text_length, struct tansyattic_verdict *out);
 
-/* Reads the sections of a module, and checks what it declares. Where the status is TANSYATTIC_VALID, `module` is
- * that module, and one that it was before is freed; else it stays as it was. */
+/* Reads the sections of a module, and checks what it declares. If the status is TANSYATTIC_VALID, `module` is then that
+ * module, and the one that it was before is freed. Otherwise it stays as it was. */
 static inline uint32_t tansyattic_load(const uint8_t *bytes, size_t length, uint32_t features,
                                        struct tansyattic_module *module, uint8_t *text, size_t text_length,
                                        struct tansyattic_verdict *out);
 
-/* Reads the sections of a module that has no bodies yet: one that ends before its code section, or has none. What it
- * declares is checked as by tansyattic_load, but for two things, which are left to that: that there are as many bodies
- * as functions of its own, and as many data segments as its data count section says. Functions can be begun over it,
- * and no function has a body: tansyattic_validate_function, _module and _next answer TANSYATTIC_NO_BODY. Else as
- * tansyattic_load. */
+/* The same for a module that has no bodies yet: its bytes end before its code section, or have none. Two things of what
+ * it declares aren't checked, which tansyattic_load does check: that there are as many bodies as functions that aren't
+ * imported, and as many data segments as the data count section says. Functions can be begun over such a module, but
+ * none of its functions has a body: tansyattic_validate_function, _module and _next answer TANSYATTIC_NO_BODY. Bytes
+ * that have bodies are TANSYATTIC_MALFORMED (`section out of order`). */
 static inline uint32_t tansyattic_declare(const uint8_t *bytes, size_t length, uint32_t features,
                                           struct tansyattic_module *module, uint8_t *text, size_t text_length,
                                           struct tansyattic_verdict *out);
 
-/* Makes `other` the same module, and frees one that it was before. Answers TANSYATTIC_VALID, TANSYATTIC_NOT_LOADED or
- * TANSYATTIC_OUT_OF_MEMORY; then `other` stays as it was. */
+/* Makes `other` a handle of the same module, and frees the one that it was before. Answers TANSYATTIC_VALID; or, and
+ * then `other` stays as it was, TANSYATTIC_NOT_LOADED or TANSYATTIC_OUT_OF_MEMORY. */
 uint32_t tansyattic_share(struct tansyattic_module *module, struct tansyattic_module *other);
 
-/* Frees a module, which is TANSYATTIC_NONE then. Where it was so before, nothing is done. */
+/* Frees a module, which is TANSYATTIC_NONE then. If it was so before, nothing is done. */
 void tansyattic_free(struct tansyattic_module *module);
 
-/* How many functions a module has, the imported ones counted, and how many of them, the first, are imported and have
- * no body. 0 where there is no module. */
+/* How many functions a module has, the imported ones included; and how many of them are imported. The imported ones
+ * come first, and have no body. Both are 0 if there is no module. */
 uint32_t tansyattic_functions(struct tansyattic_module *module);
 uint32_t tansyattic_imported_functions(struct tansyattic_module *module);
 
-/* Checks the body of the function at this index, the imported ones counted. */
+/* Checks the body of the function at this index. Imported functions count in an index. */
 static inline uint32_t tansyattic_validate_function(struct tansyattic_module *module, uint32_t function,
                                                     uint8_t *text, size_t text_length,
                                                     struct tansyattic_verdict *out);
 
-/* Checks each body and each constant expression. What the module declares was checked as it was loaded, so the status
- * is that of the module. */
+/* Checks each body and each constant expression. What the module declares was checked when it was loaded, so the status
+ * is that of the whole module. */
 static inline uint32_t tansyattic_validate_module(struct tansyattic_module *module, uint8_t *text,
                                                   size_t text_length, struct tansyattic_verdict *out);
 
-/* Checks them one after another, the constant expressions first, from the one at `*position` on, up to one that isn't
- * accepted, which it reports, and behind which it leaves `*position`. Call by call, from 0 on, it reports each: a
- * loop ends at TANSYATTIC_VALID, for none is left, and at a status above TANSYATTIC_NOT_COVERED, for there is no module,
- * or it has no bodies. */
+/* Finds the next of them that isn't accepted, constant expressions first, then bodies. It begins at `*position`, which
+ * is 0 at first, reports what it finds, and sets `*position` behind that. So a loop of calls reports each of them. The
+ * loop ends at TANSYATTIC_VALID, when none is left, and at any status above TANSYATTIC_NOT_COVERED: then there is no
+ * module, or it has no bodies. */
 static inline uint32_t tansyattic_validate_next(struct tansyattic_module *module, size_t *position,
                                                 uint8_t *text, size_t text_length, struct tansyattic_verdict *out);
 
@@ -366,73 +371,80 @@ static inline uint32_t tansyattic_validate_next(struct tansyattic_module *module
  * A function begins with one open frame, that of its type, and its parameters as locals. tansyattic_op and
  * tansyattic_try_op take one operator at a time, in the standard's binary format; the `end` of the outermost frame
  * closes the function, and tansyattic_finish says whether it is whole: then it is type safe. No order of calls does
- * harm: what may not come then is refused. What the calls answer, and what they leave, is proved (docs/CONTRACTS.md).
+ * harm: a call that may not come at its place is refused. What the calls answer, and what they leave, is proved
+ * (docs/CONTRACTS.md).
  *
- * Where there is no function, or no module, the status is TANSYATTIC_NOT_LOADED. `offset` is yours: it is the
- * operator's place as refusals tell it, and nothing else is done with it. */
+ * If there is no function, or no module, the status is TANSYATTIC_NOT_LOADED. You choose the `offset` of an operator. A
+ * refusal has it, or, if bytes inside the operator are malformed, that of these bytes, counted from it. It is used for
+ * nothing else. */
 
-/* Begins a function of the type at this index, without locals but for its parameters. Where the status is
- * TANSYATTIC_VALID, `function` is it, and one that it was before is freed; else it stays as it was. */
+/* Begins a function of the type at this index. Its only locals are its parameters. If the status is TANSYATTIC_VALID,
+ * `function` is then this one, and the one that it was before is freed. Otherwise it stays as it was. */
 static inline uint32_t tansyattic_begin(struct tansyattic_module *module, uint32_t type_index,
                                         struct tansyattic_function *function, uint8_t *text, size_t text_length,
                                         struct tansyattic_verdict *out);
 
-/* The same of a constant expression that gives a value of this type. As it stands in no place of the module, whether
- * its operators are constant isn't looked at: any may come. */
+/* The same for a constant expression that gives a value of this type. It has no place in the module, so it isn't
+ * checked whether its operators are constant: any operator may come. */
 static inline uint32_t tansyattic_begin_expression(struct tansyattic_module *module, const struct tansyattic_type *type,
                                                    struct tansyattic_function *function, uint8_t *text,
                                                    size_t text_length, struct tansyattic_verdict *out);
 
-/* The same of the function at this index, the imported ones counted, with the locals that its body declares. Its
- * operators stand in the module's bytes from `*first` up to `*behind`, which are written only where the status is
+/* The same for the function at this index, with the locals that its body declares. Its operators stand in the module's
+ * bytes from `*first` up to `*behind`, the place of the first byte after them. Both are written only if the status is
  * TANSYATTIC_VALID. */
 static inline uint32_t tansyattic_begin_body(struct tansyattic_module *module, uint32_t index,
                                              struct tansyattic_function *function, uint64_t *first, uint64_t *behind,
                                              uint8_t *text, size_t text_length, struct tansyattic_verdict *out);
 
-/* Declares so many more locals of this type, before the first operator. Where the status isn't TANSYATTIC_VALID,
- * nothing is changed. */
+/* Declares `count` more locals of this type, before the first operator. If the status isn't TANSYATTIC_VALID, nothing
+ * is changed. */
 static inline uint32_t tansyattic_define_locals(struct tansyattic_function *function, uint32_t count,
                                                 const struct tansyattic_type *type, uint64_t offset, uint8_t *text,
                                                 size_t text_length, struct tansyattic_verdict *out);
 
-/* Takes the operator that the bytes begin with; more may stand behind it. Where the status is TANSYATTIC_VALID, it is
- * accepted, and `*taken` is how many bytes it has; else `*taken` is 0. TANSYATTIC_INVALID: its rule doesn't hold.
- * TANSYATTIC_MALFORMED: the bytes begin with no operator, or end inside one (`unexpected end`).
- * TANSYATTIC_OUT_OF_MEMORY. After one of these the function has failed: it accepts no operator any more, and isn't
- * finished. TANSYATTIC_NOT_COVERED: a vector operator, while their proposal is on; nothing is changed. */
+/* Takes the operator that the bytes begin with; other bytes may follow it. `*taken` is how many bytes it has if it is
+ * accepted, and otherwise 0. The status is
+ * - TANSYATTIC_VALID: the operator is accepted;
+ * - TANSYATTIC_INVALID: its rule doesn't hold;
+ * - TANSYATTIC_MALFORMED: the bytes begin with no operator, or end inside one (`unexpected end`);
+ * - TANSYATTIC_OUT_OF_MEMORY;
+ * - TANSYATTIC_NOT_COVERED: it is a vector operator, and their proposal is on. Nothing is changed.
+ * After INVALID, MALFORMED or OUT_OF_MEMORY the function has failed: it accepts no operator any more, and
+ * tansyattic_finish doesn't accept it. */
 static inline uint32_t tansyattic_op(struct tansyattic_function *function, const uint8_t *bytes, size_t length,
                                      uint64_t offset, size_t *taken, uint8_t *text, size_t text_length,
                                      struct tansyattic_verdict *out);
 
-/* The same, but for this: where the status isn't TANSYATTIC_VALID, nothing is changed, and the function hasn't failed
- * for it. */
+/* The same, with one difference: if the status isn't TANSYATTIC_VALID, nothing is changed, and the function hasn't
+ * failed by this call. */
 static inline uint32_t tansyattic_try_op(struct tansyattic_function *function, const uint8_t *bytes, size_t length,
                                          uint64_t offset, size_t *taken, uint8_t *text, size_t text_length,
                                          struct tansyattic_verdict *out);
 
-/* Whether the function is whole: it hasn't failed, and no frame is open. It changes nothing. */
+/* Says whether the function is whole: TANSYATTIC_VALID if it hasn't failed and no frame is open. It changes nothing. */
 static inline uint32_t tansyattic_finish(struct tansyattic_function *function, uint64_t offset, uint8_t *text,
                                          size_t text_length, struct tansyattic_verdict *out);
 
-/* Frees a function, which is TANSYATTIC_NONE then. Where it was so before, nothing is done. */
+/* Frees a function, which is TANSYATTIC_NONE then. If it was so before, nothing is done. */
 void tansyattic_free_function(struct tansyattic_function *function);
 
-/* How many operands there are, in all frames; how many frames are open; how many locals there are, with the parameters.
- * 0 where there is no function. After a failure they tell of the state that the refused operator left. */
+/* How many operands there are, in all frames together; how many frames are open; how many locals there are, the
+ * parameters included. All are 0 if there is no function. After a failure they show the state that the refused operator
+ * left. */
 uint64_t tansyattic_operands(struct tansyattic_function *function);
 uint64_t tansyattic_frames(struct tansyattic_function *function);
 uint32_t tansyattic_locals(struct tansyattic_function *function);
 
 /* The type of the operand at this depth, the top at 0; the frame at this depth, the innermost at 0; the type of the
- * local at this index. Each answers 1 where there is one, which is written; else 0. */
+ * local at this index. Each answers 1 and writes it if there is one, and otherwise answers 0. */
 uint32_t tansyattic_operand(struct tansyattic_function *function, uint64_t depth, struct tansyattic_type *type);
 uint32_t tansyattic_frame(struct tansyattic_function *function, uint64_t depth, struct tansyattic_frame *frame);
 uint32_t tansyattic_local(struct tansyattic_function *function, uint32_t index, struct tansyattic_type *type);
 
-/* The name, in the standard, of the operator that the bytes begin with, as far as its code tells; and that of a
- * function in the module's name section, the imported functions counted. Each writes as much as there is room for, and
- * answers the length of the whole: 0 where there is no name. Vector operators have none here. */
+/* The standard's name of the operator that the bytes begin with, by its code alone; and the name of a function in the
+ * module's name section. Each writes as much of the name as there is room for, and answers the length of the whole
+ * name, or 0 if there is none. Vector operators have no name here. */
 static inline size_t tansyattic_operator_name(const uint8_t *bytes, size_t length, uint8_t *text, size_t text_length);
 static inline size_t tansyattic_function_name(struct tansyattic_module *module, uint32_t function, uint8_t *text,
                                               size_t text_length);
@@ -441,24 +453,25 @@ static inline size_t tansyattic_function_name(struct tansyattic_module *module, 
  * call never gets weaker within a major version. */
 uint32_t tansyattic_version(void);
 
-/* What the library takes its memory by. */
+/* The library asks the program for memory by the next three functions. This is what the first two answer. */
 struct tansyattic_block {
     bool found;                   /* whether there is memory */
-    void *block;                  /* it; where there is none, any address but null */
+    void *block;                  /* the block; if there is no memory, any address but null */
 };
 
-/* A block of so many bytes, with an alignment that divides 16. For no bytes it is any address that rattle_dealloc
- * takes. */
+/* A block of `size` bytes. Its alignment is `align`, which divides 16. If `size` is 0, it may be any address but
+ * null that rattle_dealloc takes. */
 struct tansyattic_block rattle_alloc(size_t size, size_t align);
 
-/* Makes a block one of so many bytes, of which the first, so many as are kept, are as they were. The block may
- * move. Where there is no memory, it stays as it was. */
+/* Gives a block the size of `size` bytes. Its first `kept` bytes are as they were. The block may move. If there is no
+ * memory, it stays as it was. */
 struct tansyattic_block rattle_realloc(void *block, size_t kept, size_t size, size_t align);
 
-/* Gives back a block of one of these two. */
+/* Takes back a block that one of these two answered. */
 void rattle_dealloc(void *block);
 
-/* The calls as the library has them: of these no pointer is null, even for a length of 0. */
+/* The calls by their names in the archive, for bindings that can't use the inline ones. No pointer may be null here,
+ * even if the length is 0. The shared library has the names without `raw_` too. */
 uint32_t tansyattic_raw_validate(const uint8_t *bytes, size_t length, uint32_t features, uint8_t *text,
                                  size_t text_length, struct tansyattic_verdict *out);
 uint32_t tansyattic_raw_load(const uint8_t *bytes, size_t length, uint32_t features, struct tansyattic_module *module,
@@ -496,7 +509,7 @@ size_t tansyattic_raw_operator_name(const uint8_t *bytes, size_t length, uint8_t
 size_t tansyattic_raw_function_name(struct tansyattic_module *module, uint32_t function, uint8_t *text,
                                     size_t text_length);
 
-/* An address for no bytes, which nothing is read from, and one for no text. */
+/* An address to pass for bytes of length 0, and one for a text of length 0. Nothing is read or written there. */
 static inline const uint8_t *tansyattic_bytes(const uint8_t *bytes) {
     static const uint8_t none = 0;
     return bytes != NULL ? bytes : &none;

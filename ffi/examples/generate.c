@@ -1,9 +1,9 @@
-/* Writes modules at random, each of which is valid: the body of their one function is filled with operators at random,
- * and each is attempted before it is appended. So the generator knows no rule of any operator.
+/* Writes random modules, each of which is valid. It fills the body of their one function with random operators, and
+ * attempts each before it appends it. So the generator knows no rule of any operator.
  *
  *     generate SEED COUNT FOLDER
  *
- * writes FOLDER/0.wasm and so on, checks each as a whole once more, and ends with status 1 where one isn't valid.
+ * writes FOLDER/0.wasm and so on, checks each once more as a whole, and ends with status 1 if one isn't valid.
  *
  *     cc generate.c $(pkg-config --cflags --libs tansyattic)
  */

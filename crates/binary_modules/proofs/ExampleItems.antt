@@ -1,5 +1,5 @@
 -- Limits, imports, segments and the order of sections, computed.
-use Rattle.std.proofs.Common.{◌≡◌, refl, ℕ, Bool, true, false, List, [], ◌∷◌, map, Option, Some, None}
+use Rattle.std.proofs.Common.{◌≡◌, refl, ℕ, Bool, true, false, [], ◌∷◌, map, Option, Some, None}
 use Rattle.binary_operators.specs.Codes.{plain_ops, index_ops}
 use Rattle.binary_operators.specs.Forms.{forms}
 use Rattle.binary_operators.specs.Instructions.{operator, constant_i32, index_op}

@@ -1,5 +1,5 @@
 -- A whole module, byte by byte, and what it declares.
-use Rattle.std.proofs.Common.{refl, inl, ℕ, true, false, List, [], ◌∷◌, ◌++◌, Some, None}
+use Rattle.std.proofs.Common.{refl, ℕ, true, false, List, [], ◌∷◌, ◌++◌, Some, None}
 use lib.Utf8.{encode}
 use Rattle.std.specs.Str.{is_utf8, chars}
 use Rattle.binary_operators.specs.Forms.{forms}
@@ -140,7 +140,7 @@ is_module = record {
           is_rolled = record { types = in_group Places []; are_before = refl; are_own = refl; is_read = refl };
           end = _;
           is_declared = record { types = in_group (Indices 0) []; are_before = refl; are_own = refl; is_read = refl };
-          is_canonical = inl refl;
+          is_canonical = refl;
         },
         refl,
       );

@@ -1,5 +1,5 @@
 -- Computed examples of the binary format of types, against bytes that are put together by hand.
-use Rattle.std.proofs.Common.{◌≡◌, refl, inl, inr, lit<, ℕ, Bool, true, false, List, [], ◌∷◌, Option, Some, None}
+use Rattle.std.proofs.Common.{◌≡◌, refl, inl, ℕ, Bool, true, false, List, [], ◌∷◌, Option, Some, None}
 use Rattle.binary_operators.specs.Types.{heap_type, ref_type, reference_type, value_type}
 use Rattle.binary_operators.specs.Unplaced.{nowhere}
 use Rattle.binary_operators.specs.Values.{list_of}
@@ -113,7 +113,7 @@ equal_types = record {
       is_rolled = record { types = in_group Places []; are_before = refl; are_own = refl; is_read = refl };
       end = _;
       is_declared = record { types = in_group (Indices 0) []; are_before = refl; are_own = refl; is_read = refl };
-      is_canonical = inl refl;
+      is_canonical = refl;
     },
     (
       _,
@@ -121,7 +121,7 @@ equal_types = record {
         is_rolled = record { types = in_group Places (0 ∷ []); are_before = refl; are_own = refl; is_read = refl };
         end = _;
         is_declared = record { types = in_group (Indices 0) (0 ∷ []); are_before = refl; are_own = refl; is_read = refl };
-        is_canonical = inr (0, first_node, lit< tt, refl, (refl, refl));
+        is_canonical = inl (refl, refl);
       },
       refl,
     ),

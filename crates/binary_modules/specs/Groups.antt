@@ -1,8 +1,8 @@
 -- Recursion groups in the bytes of a module, and which of them are equal (WebAssembly core specification,
 -- "Binary Format: Types", "Recursive Types", and "Modules", "Type Section"; "Structure: Types", "Defined
 -- Types").
-use Rattle.std.specs.Prelude.{◌≡◌, ◌⊎◌, ℕ, Bool, true, false, List, [], ◌∷◌, ◌++◌, length, map, flat_map}
-use Rattle.std.specs.Prelude.{Any, Option, Some}
+use Rattle.std.specs.Prelude.{◌≡◌, ◌≢◌, ◌⊎◌, ℕ, Bool, true, false, List, [], ◌∷◌, ◌++◌, length, map}
+use Rattle.std.specs.Prelude.{flat_map, Option, Some}
 use Rattle.std.specs.List.{range_with_len}
 use Rattle.binary_operators.specs.Integers.{unsigned}
 use Rattle.binary_operators.specs.Values.{◌>>=◌, so_many}
@@ -59,12 +59,16 @@ types_of groups = flat_map (λ (g : Group). g.types) groups
 abbrev pub canonical_of : List Group → List ℕ
 canonical_of groups = flat_map (λ (g : Group). range_with_len g.first (length g.types)) groups
 
--- Its own types stand for those of the group, or those that stand for an earlier group, which is equal to it
--- where both are rolled up.
+-- An index stands for that of the first type of a group, which is rolled up: that of the first of these groups
+-- that is equal to it, or this one where none is.
+abbrev pub StandsFor : List Group → List SubType → ℕ → ℕ → Type 0
+StandsFor [] rolled own first = first ≡ own
+StandsFor (g ∷ groups) rolled own first =
+    ((g.rolled ≡ rolled) × (first ≡ g.first)) ⊎ ((g.rolled ≢ rolled) × StandsFor groups rolled own first)
+
+-- a group stands for the first one before it that is equal to it, or for itself where none is
 abbrev pub IsCanonical : List Group → Group → Type 0
-IsCanonical before g =
-    (g.first ≡ length (canonical_of before))
-    ⊎ Any (λ (e : Group). (e.first ≡ g.first) × (e.rolled ≡ g.rolled)) before
+IsCanonical before g = StandsFor before g.rolled (length (canonical_of before)) g.first
 
 -- the bytes begin with this group, where these stand before it, and these bytes are behind it
 pub record IsGroup (before : List Group) (bytes : List ℕ) (g : Group) (behind : List ℕ) : Type 0 where

@@ -1,13 +1,17 @@
 -- What the reader of recursion groups keeps (the crate's own).
-use Rattle.std.specs.Prelude.{◌≡◌, ◌⊎◌, ℕ, List, [], ◌∷◌, ◌++◌, map, All, Any, Some}
+use Rattle.std.specs.Prelude.{◌≡◌, ◌≢◌, ◌⊎◌, ℕ, List, [], ◌∷◌, ◌++◌, map, Option, Some, None, Vec}
+use Rattle.std.specs.BTreeMap.{BTreeMap, get}
+use Rattle.std.specs.Cmp.Lexicographic.{slice_cmp}
+use Rattle.std.specs.declared.alloc.Global.{Global}
+use Rattle.std.specs.declared.cmp.Ordering.{Ordering}
 use Rattle.binary_operators.specs.Values.{so_many}
 use Rattle.binary_operators.specs.declared.types.CanonicalTypes.{CanonicalTypes}
 use Rattle.binary_operators.specs.declared.types.GroupNames.{GroupNames}
+use Rattle.validate_types.specs.contracts.types.SubTypeOrd.TheImpl as sub_type_ord
 use Rattle.validate_types.specs.declared.types.SubType.{SubType}
 use Rattle.binary_modules.specs.SubTypes.{sub_type}
-use Rattle.binary_modules.specs.Groups.{Group as ReadGroup, types_of, canonical_of, shape, written_shape}
+use Rattle.binary_modules.specs.Groups.{Group, StandsFor, types_of, canonical_of, shape, written_shape}
 use Rattle.binary_modules.specs.Groups.{IsGroup}
-use Rattle.binary_modules.specs.declared.groups.Group.{Group}
 use Rattle.binary_modules.specs.declared.groups.TypeSection.{TypeSection}
 
 -- The bytes begin with so many types of a group. These stand for those before it, and its own are named so.
@@ -19,27 +23,40 @@ pub record HasTypes
   pub are_own : types.group ≡ names
   pub are_read : so_many (sub_type types) count bytes ≡ Some (read, rest)
 
--- The index stands for that of the group's first type: its own, and then the group is known, or that of a
--- group that was known before and is equal.
-abbrev pub Stands : List Group → List Group → Group → ℕ → Type 0
-Stands before after g first =
-    ((first ≡ g.first) × (after ≡ before ++ g ∷ []))
-    ⊎ (Any (λ (k : Group). (k.first ≡ first) × (k.types.items ≡ g.types.items)) before × (after ≡ before))
+-- the order of groups, rolled up
+abbrev pub rolled_cmp : Vec SubType Global → Vec SubType Global → Ordering
+rolled_cmp a b = slice_cmp (sub_type_ord.ghosts).cmp a.items b.items
 
--- it is one of the groups that were read
-abbrev pub IsKnown : List ReadGroup → Group → Type 0
-IsKnown groups k = Any (λ (g : ReadGroup). (g.first ≡ k.first) × (g.rolled ≡ k.types.items)) groups
+-- what the first of these groups that is equal to one, rolled up, stands for, if one is
+abbrev pub IsFound : List Group → List SubType → Option ℕ → Type 0
+IsFound [] rolled found = found ≡ None
+IsFound (g ∷ groups) rolled found =
+    ((g.rolled ≡ rolled) × (found ≡ Some g.first)) ⊎ ((g.rolled ≢ rolled) × IsFound groups rolled found)
 
--- these are the types of these groups, and each group that is known is one of them
-pub record HasRead (section : TypeSection) (kept : List Group) (groups : List ReadGroup) : Type 0 where
+-- the map has what these groups stand for
+abbrev pub Knows : BTreeMap (Vec SubType Global) ℕ → List Group → Type 0
+Knows firsts groups = (rolled : Vec SubType Global) → IsFound groups rolled.items (get rolled_cmp firsts rolled)
+
+-- The index stands for that of the first type of a group, rolled up, behind these, and the map has what the group
+-- stands for.
+pub record HasStood
+    (before : List Group) (firsts : BTreeMap (Vec SubType Global) ℕ) (rolled : List SubType) (own first : ℕ)
+    : Type 0 where
+  pub stands : StandsFor before rolled own first
+  pub knows : (g : Group) → g.rolled ≡ rolled → g.first ≡ first → Knows firsts (before ++ g ∷ [])
+
+-- these are the types of these groups, and the map has what they stand for
+pub record HasRead
+    (section : TypeSection) (firsts : BTreeMap (Vec SubType Global) ℕ) (groups : List Group) : Type 0 where
   pub types : section.types.items ≡ types_of groups
   pub canonical : section.canonical.items ≡ canonical_of groups
   pub written : map written_shape section.groups.items ≡ map shape groups
-  pub known : All (IsKnown groups) kept
+  pub known : Knows firsts groups
 
 -- a group more was read: the bytes began with it, and these are behind it
 pub record HasReadGroup
-    (before : List ReadGroup) (bytes rest : List ℕ) (section : TypeSection) (kept : List Group) : Type 0 where
-  pub group : ReadGroup
+    (before : List Group) (bytes rest : List ℕ) (section : TypeSection)
+    (firsts : BTreeMap (Vec SubType Global) ℕ) : Type 0 where
+  pub group : Group
   pub is_group : IsGroup before bytes group rest
-  pub has_read : HasRead section kept (before ++ group ∷ [])
+  pub has_read : HasRead section firsts (before ++ group ∷ [])

@@ -12,6 +12,7 @@ ghost use Rattle.binary_modules.specs.Sections.{contents_of, section_contents, I
 
 use crate::entries::{Entry, read_entries};
 use crate::initializers::Initializers;
+use crate::lists::list_for;
 use crate::section_list::{ContentSection, contents_of, read_part, section_contents};
 use binary_operators::{BinaryReader, CanonicalTypes, Fault, ReadError, push};
 use std::alloc::Global;
@@ -117,7 +118,7 @@ pub(crate) fn read_bodies_of<'a>(
 {
     let mut reader = contents_of(sections, 10);
     let count = reader.read_var_u32()?;
-    let mut bodies = Vec::new(alloc);
+    let mut bodies = list_for(alloc, &reader, count)?;
     read_bodies(&mut reader, count, &mut bodies)?;
     check_end(&reader)?;
     Ok(bodies)

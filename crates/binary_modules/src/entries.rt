@@ -8,6 +8,7 @@ ghost use Rattle.binary_modules.specs.Items.{Item, declared_items, placed};
 ghost use Rattle.binary_modules.specs.Kept.{Adds};
 
 use crate::initializers::Initializers;
+use crate::lists::make_room;
 use binary_operators::{BinaryReader, CanonicalTypes, Fault, ReadError, push};
 use std::alloc::Global;
 
@@ -71,6 +72,7 @@ pub(crate) fn read_entries<'a, T: Entry>(
         × Adds initializers.old (placed (length items.old.items) read) initializers.new) }
 {
     let count = reader.read_var_u32()?;
+    make_room(items, reader, count)?;
     for _ in 0..count {
         read_entry(alloc, reader, canonical, items, initializers)?;
     }

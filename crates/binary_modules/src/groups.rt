@@ -4,82 +4,46 @@
 //! here, that of the first of them: whatever names a type is read through a list that says which stands for
 //! it. Each group is read twice: first rolled up, to be compared, and then as it is declared.
 
-ghost use Rattle.std.specs.Prelude.{◌≡◌, List, [], ◌++◌, Some, IfOk, IfSome, OnOk, Any};
+ghost use Rattle.std.specs.Prelude.{◌≡◌, List, [], ◌++◌, Some, IfOk, OnOk};
 ghost use Rattle.std.specs.List.{range_with_len};
 ghost use Rattle.binary_operators.specs.declared.types.GroupNames.TheVariants.{Places, Indices};
 ghost use Rattle.validate_types.specs.declared.types.SubType.{SubType};
-ghost use Rattle.binary_modules.specs.Groups.{Group as ReadGroup, group_count, AreTypes};
-ghost use Rattle.binary_modules.specs.Read.{HasTypes, Stands, HasRead, HasReadGroup};
-ghost use Rattle.binary_modules.specs.declared.groups.Group.{Group};
+ghost use Rattle.binary_modules.specs.Groups.{Group, group_count, AreTypes};
+ghost use Rattle.binary_modules.specs.Read.{HasTypes, Knows, HasStood, HasRead, HasReadGroup};
 
-use crate::lists::read_so_many;
+use crate::lists::{list_for, make_room, read_so_many};
 use crate::subtypes::read_mark;
-use crate::words::words_of;
-use binary_operators::{
-    BinaryReader, CanonicalTypes, Fault, GroupNames, ReadError, are_groups_equal, push,
-};
+use binary_operators::{BinaryReader, CanonicalTypes, Fault, GroupNames, ReadError, push};
 use module_rules::RecGroup;
 use std::alloc::Global;
 use std::collections::BTreeMap;
 use validate_types::SubType;
 
-/// A recursion group to which none before it is equal.
-#[derive(Drop)]
-struct Group {
-    /// The index of its first type.
-    first: u32,
-    /// Its types, rolled up.
-    types: Vec<SubType>,
-}
-
 /// The recursion groups that differ.
 #[derive(Drop)]
 struct Groups {
-    groups: Vec<Group>,
-    /// Where a group with these words stands among them.
-    places: BTreeMap<Vec<u32>, usize>,
+    /// Of each, rolled up, the index of its first type.
+    firsts: BTreeMap<Vec<SubType>, u32>,
 }
 
 impl Groups {
     /// No groups. It takes no memory.
     fn new(alloc: Global) -> Groups
-        ensures { result.groups.items ≡ [] }
+        ensures { Knows result.firsts [] }
     {
         Groups {
-            groups: Vec::new(alloc),
-            places: BTreeMap::new(alloc),
+            firsts: BTreeMap::new(alloc),
         }
     }
 
-    /// The index of the first type of the group that has these words, if its types are these.
-    fn equal(&self, words: &Vec<u32>, types: &[SubType]) -> Option<u32>
-        ensures { IfSome result (λ first. Any (λ (g : Group). (g.first ≡ first) × (g.types.items ≡ types.now))
-            self.now.groups.items) }
+    /// The index that stands for that of the first type of this group, which is rolled up: that of the first group that
+    /// is equal, or its own. It refuses want of memory.
+    fn stand(&mut self, rolled: Vec<SubType>, own: u32) -> Result<u32, ReadError>
+        ensures { IfOk result (λ first. (groups : List Group) → Knows self.old.firsts groups
+            → HasStood groups self.new.firsts rolled.items own first) }
     {
-        let place = self.places.get(words).copied()?;
-        if place >= self.groups.len() {
-            return None;
-        }
-        let group = &self.groups[place];
-        if are_groups_equal(&group.types, types) {
-            Some(group.first)
-        } else {
-            None
-        }
-    }
-
-    /// The index that stands for that of the first type of a group with these words: that of an equal group, or its
-    /// own. It refuses want of memory.
-    fn stand(&mut self, group: Group, words: Vec<u32>) -> Result<u32, ReadError>
-        ensures { IfOk result (λ first. Stands self.old.groups.items self.new.groups.items group first) }
-    {
-        if let Some(first) = self.equal(&words, &group.types) {
-            return Ok(first);
-        }
-        let _former = self.places.insert(words, self.groups.len())?;
-        let first = group.first;
-        push(&mut self.groups, group)?;
-        Ok(first)
+        let place = self.firsts.entry(rolled)?;
+        Ok(*place.or_insert(own))
     }
 }
 
@@ -106,6 +70,30 @@ impl TypeSection {
             canonical: Vec::new(alloc),
             groups: Vec::new(alloc),
         }
+    }
+
+    /// Makes room for so many types. It refuses want of memory alone.
+    fn make_room_for_types(
+        &mut self,
+        reader: &BinaryReader<'_>,
+        count: u32,
+    ) -> Result<(), ReadError>
+        ensures types { self.new.types.items ≡ self.old.types.items }
+        ensures canonical { self.new.canonical.items ≡ self.old.canonical.items }
+        ensures groups { self.new.groups ≡ self.old.groups }
+    {
+        make_room(&mut self.types, reader, count)?;
+        make_room(&mut self.canonical, reader, count)
+    }
+
+    /// Makes room for so many groups of one type. It refuses want of memory alone.
+    fn make_room(&mut self, reader: &BinaryReader<'_>, count: u32) -> Result<(), ReadError>
+        ensures types { self.new.types.items ≡ self.old.types.items }
+        ensures canonical { self.new.canonical.items ≡ self.old.canonical.items }
+        ensures groups { self.new.groups.items ≡ self.old.groups.items }
+    {
+        self.make_room_for_types(reader, count)?;
+        make_room(&mut self.groups, reader, count)
     }
 
     /// Says of so many types, behind those that are there, that those from this index on stand for them. It refuses an
@@ -142,6 +130,7 @@ impl TypeSection {
         ensures groups { self.new.groups ≡ self.old.groups }
     {
         let offset = reader.offset();
+        self.make_room_for_types(reader, count)?;
         let names = CanonicalTypes::in_group(&self.canonical, GroupNames::Indices(first));
         read_so_many(alloc, reader, names, count, &mut self.types)?;
         self.name(first, count, offset)?;
@@ -155,16 +144,15 @@ impl TypeSection {
             .count()
     }
 
-    /// Reads a group behind those that were read. It refuses what the reads of its types refuse, a type behind the
-    /// group, `unknown type N: type index out of bounds`, and want of memory.
+    /// Reads a group behind those that were read. It refuses what the reads of its types refuse, and want of memory.
     fn read_group(
         &mut self,
         alloc: Global,
         reader: &mut BinaryReader<'_>,
         groups: &mut Groups,
     ) -> Result<(), ReadError>
-        ensures { OnOk result ((before : List ReadGroup) → HasRead self.old groups.old.groups.items before
-            → HasReadGroup before reader.old.left reader.new.left self.new groups.new.groups.items) }
+        ensures { OnOk result ((before : List Group) → HasRead self.old groups.old.firsts before
+            → HasReadGroup before reader.old.left reader.new.left self.new groups.new.firsts) }
     {
         let offset = reader.offset();
         let Ok(first) = u32::try_from(self.canonical.len()) else {
@@ -173,9 +161,8 @@ impl TypeSection {
         let explicit = read_mark(reader, 0x4e)?;
         let count = read_count(reader, explicit)?;
         let mut again = reader.duplicate();
-        let types = read_rolled(alloc, reader, &self.canonical, count)?;
-        let words = words_of(alloc, &types, first, offset)?;
-        let stands = groups.stand(Group { first, types }, words)?;
+        let rolled = read_rolled(alloc, reader, &self.canonical, count)?;
+        let stands = groups.stand(rolled, first)?;
         self.declare(alloc, &mut again, stands, count)?;
         push(
             &mut self.groups,
@@ -209,15 +196,14 @@ fn read_rolled(
     ensures { IfOk result (λ types. HasTypes canonical.now Places count reader.old.left types.items
         reader.new.left) }
 {
-    let mut types = Vec::new(alloc);
+    let mut types = list_for(alloc, reader, count)?;
     let names = CanonicalTypes::in_group(canonical, GroupNames::Places);
     read_so_many(alloc, reader, names, count, &mut types)?;
     Ok(types)
 }
 
-/// Reads the types of a module, group by group. It refuses what the reads of types refuse, a name of a type behind
-/// its group, `unknown type N: type index out of bounds`, more types than 2^32, `type index greater than implementation
-/// limits`, and want of memory.
+/// Reads the types of a module, group by group. It refuses what the reads of types refuse, more types than 2^32, `type
+/// index greater than implementation limits`, and want of memory.
 pub fn read_types(alloc: Global, reader: &mut BinaryReader<'_>) -> Result<TypeSection, ReadError>
     ensures { IfOk result (λ section. AreTypes reader.old.left section.types.items section.canonical.items
         section.groups.items reader.new.left) }
@@ -225,6 +211,7 @@ pub fn read_types(alloc: Global, reader: &mut BinaryReader<'_>) -> Result<TypeSe
     let count = reader.read_var_u32()?;
     let mut section = TypeSection::new(alloc);
     let mut groups = Groups::new(alloc);
+    section.make_room(reader, count)?;
     for _ in 0..count {
         section.read_group(alloc, reader, &mut groups)?;
     }

@@ -48,12 +48,12 @@ fn read_import_behind(
         0x02 => Ok(Import::Memory(read_memory_type(reader, offset)?)),
         0x03 => Ok(Import::Global(read_global_type(reader, canonical, offset)?)),
         0x04 => Ok(Import::Tag(read_tag_type(reader, canonical, offset)?)),
-        _ => Err(ReadError::malformed(Fault::MalformedImportKind, code_offset)),
+        _ => Err(ReadError::malformed(Fault::InvalidExternalKind(code), code_offset)),
     }
 }
 
-/// Reads an import. It refuses a code that is none, `malformed import kind`, and what the reads of names and of types
-/// refuse.
+/// Reads an import. It refuses a code that is none, `invalid leading byte (0xNN) for external kind`, and what the reads of
+/// names and of types refuse.
 #[tactic(auto, unfolding(crate::specs::Items::import_item))]
 fn read_import(
     reader: &mut BinaryReader<'_>,

@@ -97,8 +97,8 @@ fn external_kind(code: u8) -> Option<ExternalKind>
     }
 }
 
-/// Reads an export. It refuses a code that is none, `invalid external kind`, what the reads of its name and of numbers
-/// refuse, and want of memory.
+/// Reads an export. It refuses a code that is none, `invalid leading byte (0xNN) for external kind`, what the reads of its
+/// name and of numbers refuse, and want of memory.
 #[tactic(auto, unfolding(crate::specs::Items::export))]
 pub(crate) fn read_export(alloc: Global, reader: &mut BinaryReader<'_>) -> Result<Export, ReadError>
     ensures read { IfOk result (λ e. export reader.old.left
@@ -112,7 +112,7 @@ pub(crate) fn read_export(alloc: Global, reader: &mut BinaryReader<'_>) -> Resul
     let kind_offset = reader.offset();
     let code = reader.read_u8()?;
     let Some(kind) = external_kind(code) else {
-        return Err(ReadError::malformed(Fault::InvalidExternalKind, kind_offset));
+        return Err(ReadError::malformed(Fault::InvalidExternalKind(code), kind_offset));
     };
     let index = reader.read_var_u32()?;
     Ok(Export {

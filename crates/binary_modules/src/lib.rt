@@ -20,7 +20,6 @@ mod parts;
 mod section_list;
 mod subtypes;
 mod whole;
-mod words;
 
 pub use crate::initializers::ConstantExpression;
 pub use crate::names::{FunctionNames, read_function_names};

@@ -79,6 +79,46 @@ impl Item for SubType {
     }
 }
 
+/// Room is made ahead for no more items than this.
+const MOST_ROOM: usize = 1_000_000;
+
+/// For how many items room is made ahead, where so many are to be read: for no more than bytes are left, since each
+/// takes one at least.
+fn room_for(reader: &BinaryReader<'_>, count: u32) -> usize {
+    (count as usize).min(reader.bytes_left()).min(MOST_ROOM)
+}
+
+/// An empty list with room for so many items, as far as room is made ahead. It refuses want of memory alone.
+pub(crate) fn list_for<T>(
+    alloc: Global,
+    reader: &BinaryReader<'_>,
+    count: u32,
+) -> Result<Vec<T>, ReadError>
+    ensures empty { IfOk result (λ list. list.items ≡ []) }
+    ensures short { IfErr result (λ e. e.cause ≡ OutOfMemory) }
+{
+    match Vec::with_capacity(alloc, room_for(reader, count)) {
+        Ok(list) => Ok(list),
+        Err(_) => Err(ReadError::out_of_memory(0)),
+    }
+}
+
+/// Makes room for so many items behind those that are there, as far as room is made ahead. It refuses want of memory
+/// alone.
+pub(crate) fn make_room<T>(
+    items: &mut Vec<T>,
+    reader: &BinaryReader<'_>,
+    count: u32,
+) -> Result<(), ReadError>
+    ensures kept { items.new.items ≡ items.old.items }
+    ensures short { IfErr result (λ e. e.cause ≡ OutOfMemory) }
+{
+    match items.reserve(room_for(reader, count)) {
+        Ok(()) => Ok(()),
+        Err(_) => Err(ReadError::out_of_memory(0)),
+    }
+}
+
 /// Reads an item behind those that are there.
 fn read_item<T: Item>(
     alloc: Global,
@@ -131,7 +171,7 @@ pub(crate) fn read_list<T: Item>(
         → list_of (T.reading canonical.entry) reader.old.left ≡ None) }
 {
     let count = reader.read_var_u32()?;
-    let mut items = Vec::new(alloc);
+    let mut items = list_for(alloc, reader, count)?;
     read_so_many(alloc, reader, canonical, count, &mut items)?;
     Ok(items)
 }

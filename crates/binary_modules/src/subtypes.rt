@@ -176,7 +176,7 @@ fn read_inner_behind(
         0x5f => read_struct_type(alloc, reader, canonical),
         0x5e => read_array_type(reader, canonical),
         0x5d => read_cont_type(reader, canonical, offset),
-        _ => Err(ReadError::malformed(Fault::InvalidTypeCode, offset)),
+        _ => Err(ReadError::malformed(Fault::InvalidTypeCode(code), offset)),
     }
 }
 
@@ -318,8 +318,8 @@ fn read_below_supertype(
     read_with_supertype(alloc, reader, canonical, is_final, supertype_idx)
 }
 
-/// Reads a type. It refuses what the reads of its parts refuse, `more than one supertype`, `invalid leading byte
-/// of a type`, and `type index greater than implementation limits`.
+/// Reads a type. It refuses what the reads of its parts refuse, `more than one supertype`, `invalid leading byte (0xNN)
+/// for type`, and `type index greater than implementation limits`.
 #[tactic(auto, unfolding(crate::specs::SubTypes::sub_type))]
 pub(crate) fn read_sub_type(
     alloc: Global,

@@ -1,5 +1,6 @@
 pub mod Examples
 pub mod Items
+pub mod LongNumbers
 pub mod Powers
 pub mod Sequences
 pub mod Shorter

@@ -7,6 +7,11 @@ abbrev pub with_low : ℕ → Option (ℕ × List ℕ) → Option (ℕ × List �
 with_low low None = None
 with_low low (Some high) = Some (high.0 * 128 + low, high.1)
 
+-- a number of which these are the low bits, so many, with the bits above them and the bytes behind it
+abbrev pub above : ℕ → ℕ → Option (ℕ × List ℕ) → Option (ℕ × List ℕ)
+above shift low None = None
+above shift low (Some high) = Some (high.0 * 2 ^ shift + low, high.1)
+
 -- a number with the bytes behind it
 abbrev pub with_rest : List ℕ → Option ℕ → Option (ℕ × List ℕ)
 with_rest bytes None = None

@@ -3,7 +3,6 @@ pub mod Codes
 pub mod Expressions
 pub mod Forms
 pub mod Functions
-pub mod Heads
 pub mod Immediates
 pub mod Instructions
 pub mod Integers

@@ -89,7 +89,7 @@ pub(crate) fn plain_op<'l>(code: u32, offset: u64, to: &mut Op<'l>) -> Result<()
         0xfc16 => *to = Op::Numeric(NumericOp::MulWide(Sign::Unsigned)),
         0xfe04 => *to = Op::Atomic(AtomicOp::Pause),
         0xfe72 => *to = Op::Shared(SharedOp::RefI31Shared),
-        _ => return Err(ReadError::illegal(offset)),
+        _ => return Err(ReadError::illegal(code, offset)),
     }
     Ok(())
 }
@@ -136,7 +136,7 @@ pub(crate) fn index_op<'l>(
         0xfc10 => *to = Op::Table(TableOp::TableSize(index)),
         0xfc11 => *to = Op::Table(TableOp::TableFill(index)),
         0xfc12 => *to = Op::Memory(MemoryOp::MemoryDiscard(index)),
-        _ => return Err(ReadError::illegal(offset)),
+        _ => return Err(ReadError::illegal(code, offset)),
     }
     Ok(())
 }

@@ -4,6 +4,7 @@ ghost use Rattle.std.specs.Prelude.{◌≡◌};
 ghost use Rattle.binary_operators.specs.declared.error.Cause.TheVariants.{OutOfMemory};
 
 use std::alloc::{AllocError, AllocFailed};
+use std::fmt;
 
 /// What is wrong with bytes that are no module's.
 #[derive(Clone, Copy)]
@@ -20,16 +21,21 @@ pub enum Fault {
     InvalidCastFlags,
     /// `malformed mutability`
     MalformedMutability,
-    /// `invalid leading byte of a type`
-    InvalidTypeCode,
+    /// `invalid leading byte (0xNN) for type`
+    InvalidTypeCode(u8),
     /// `more than one supertype`
     SeveralSupertypes,
     /// `invalid catch`
     InvalidCatch,
     /// `invalid handler`
     InvalidHandler,
-    /// `illegal opcode`
-    IllegalOpcode,
+    /// `illegal opcode: 0xNN`, or behind a prefix `unknown 0xNN subopcode: 0xNN`
+    IllegalOpcode {
+        /// The prefix, if there is one.
+        prefix: Option<u8>,
+        /// The byte, or the number behind the prefix.
+        code: u32,
+    },
     /// `unexpected end`
     UnexpectedEnd,
     /// `integer too large`
@@ -38,8 +44,6 @@ pub enum Fault {
     IntegerTooLong,
     /// `malformed UTF-8 encoding`
     MalformedUtf8Encoding,
-    /// `unknown type N: type index out of bounds`, of a type that names the one at this index.
-    UnknownType(u32),
     /// `invalid element kind`
     InvalidElementKind,
     /// `invalid flags of a segment`
@@ -50,12 +54,10 @@ pub enum Fault {
     InvalidLimitsFlags,
     /// `invalid tag attributes`
     InvalidTagAttributes,
-    /// `malformed import kind`
-    MalformedImportKind,
     /// `invalid table encoding`
     InvalidTableEncoding,
-    /// `invalid external kind`
-    InvalidExternalKind,
+    /// `invalid leading byte (0xNN) for external kind`, of an import or an export.
+    InvalidExternalKind(u8),
     /// `magic header not detected`
     NoMagicHeader,
     /// `unknown binary version (or a component)`
@@ -75,7 +77,7 @@ pub enum Fault {
 }
 
 impl Fault {
-    /// The text of it, without the index that one of them has.
+    /// The text of it, without the numbers that some have: `{}` writes these too.
     pub fn text(self) -> &'static str {
         match self {
             Fault::InvalidAbstractHeapType => "invalid abstract heap type",
@@ -84,24 +86,22 @@ impl Fault {
             Fault::InvalidValueType => "invalid value type",
             Fault::InvalidCastFlags => "invalid cast flags",
             Fault::MalformedMutability => "malformed mutability",
-            Fault::InvalidTypeCode => "invalid leading byte of a type",
+            Fault::InvalidTypeCode(_) => "invalid leading byte for type",
             Fault::SeveralSupertypes => "more than one supertype",
             Fault::InvalidCatch => "invalid catch",
             Fault::InvalidHandler => "invalid handler",
-            Fault::IllegalOpcode => "illegal opcode",
+            Fault::IllegalOpcode { .. } => "illegal opcode",
             Fault::UnexpectedEnd => "unexpected end",
             Fault::IntegerTooLarge => "integer too large",
             Fault::IntegerTooLong => "integer representation too long",
             Fault::MalformedUtf8Encoding => "malformed UTF-8 encoding",
-            Fault::UnknownType(_) => "unknown type: type index out of bounds",
             Fault::InvalidElementKind => "invalid element kind",
             Fault::InvalidSegmentFlags => "invalid flags of a segment",
             Fault::InvalidAtomicOrdering => "invalid atomic ordering",
             Fault::InvalidLimitsFlags => "invalid flags of limits",
             Fault::InvalidTagAttributes => "invalid tag attributes",
-            Fault::MalformedImportKind => "malformed import kind",
             Fault::InvalidTableEncoding => "invalid table encoding",
-            Fault::InvalidExternalKind => "invalid external kind",
+            Fault::InvalidExternalKind(_) => "invalid leading byte for external kind",
             Fault::NoMagicHeader => "magic header not detected",
             Fault::UnknownVersion => "unknown binary version (or a component)",
             Fault::MalformedSectionId => "malformed section id",
@@ -110,6 +110,32 @@ impl Fault {
             Fault::InconsistentCode => "function and code section have inconsistent lengths",
             Fault::InconsistentData => "data count and data section have inconsistent lengths",
             Fault::AlignmentTooLarge => "malformed memop alignment: alignment too large",
+        }
+    }
+
+    /// Whether its text has a number.
+    pub fn has_number(self) -> bool {
+        matches!(
+            self,
+            Fault::InvalidTypeCode(_) | Fault::IllegalOpcode { .. } | Fault::InvalidExternalKind(_)
+        )
+    }
+}
+
+/// The text, with the number that it has.
+impl fmt::Display for Fault {
+    fn fmt<W: fmt::Write>(&self, f: &mut fmt::Formatter<W>) -> fmt::Result {
+        match *self {
+            Fault::InvalidTypeCode(byte) => write!(f, "invalid leading byte (0x{byte:x}) for type"),
+            Fault::InvalidExternalKind(byte) => {
+                write!(f, "invalid leading byte (0x{byte:x}) for external kind")
+            }
+            Fault::IllegalOpcode { prefix: None, code } => write!(f, "illegal opcode: 0x{code:x}"),
+            Fault::IllegalOpcode {
+                prefix: Some(prefix),
+                code,
+            } => write!(f, "unknown 0x{prefix:x} subopcode: 0x{code:x}"),
+            fault => f.write_str(fault.text()),
         }
     }
 }
@@ -143,9 +169,18 @@ impl ReadError {
         }
     }
 
-    /// The refusal of a code that no operator has, which stands at the offset.
-    pub(crate) fn illegal(offset: u64) -> ReadError {
-        ReadError::malformed(Fault::IllegalOpcode, offset)
+    /// The refusal of a number that no operator has behind this prefix, or of a byte that is none's where there is no
+    /// prefix. The operator would begin at the offset.
+    pub(crate) fn no_operator(prefix: Option<u8>, code: u32, offset: u64) -> ReadError {
+        ReadError::malformed(Fault::IllegalOpcode { prefix, code }, offset)
+    }
+
+    /// The refusal of a whole code that no operator has, its prefix first. The operator would begin at the offset.
+    pub(crate) fn illegal(code: u32, offset: u64) -> ReadError {
+        match u8::try_from(code / 0x100) {
+            Ok(0) | Err(_) => ReadError::no_operator(None, code, offset),
+            Ok(prefix) => ReadError::no_operator(Some(prefix), code % 0x100, offset),
+        }
     }
 
     /// Bytes that begin a vector operator.
@@ -156,7 +191,7 @@ impl ReadError {
         }
     }
 
-    /// Want of memory.
+    /// Memory ran out.
     pub fn out_of_memory(offset: u64) -> ReadError
         ensures { result.cause ≡ OutOfMemory }
     {

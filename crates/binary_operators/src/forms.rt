@@ -194,7 +194,7 @@ pub(crate) fn item<T: Copy>(items: &[T], first: u32, code: u32) -> Option<T>
 
 /// What follows this code of one byte.
 #[inline(always)]
-pub(crate) fn form_of(code: u8) -> Option<Form>
+pub fn form_of(code: u8) -> Option<Form>
     ensures { result ≡ from 0 forms code }
 {
     item(&FORMS, 0, u32::from(code))

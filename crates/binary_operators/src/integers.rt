@@ -50,15 +50,15 @@ pub(crate) fn has_bits(byte: u8, bits: u32) -> bool
     bits >= 7 || byte < 1 << bits
 }
 
-/// The number of so many bits of which these are the low 7, and these are above them.
+/// The number of which these are the low bits, so many, and these, of another width, are above them.
 #[inline(always)]
-pub(crate) fn widened(high: u64, low: u8, bits: u32) -> u64
-    requires more { 7 < bits }
-    requires most { bits ≤ 64 }
-    requires low { low < 128 }
-    requires high { high < 2 ^ (bits - 7) }
-    ensures value { result ≡ high * 128 + low }
-    ensures below { result < 2 ^ bits }
+pub(crate) fn raised(high: u64, width: u32, low: u64, shift: u32) -> u64
+    requires some { 0 < width }
+    requires room { shift + width ≤ 64 }
+    requires low { low < 2 ^ shift }
+    requires high { high < 2 ^ width }
+    ensures value { result ≡ high * 2 ^ shift + low }
+    ensures below { result < 2 ^ (shift + width) }
 {
-    high * 128 + u64::from(low)
+    (high << shift) + low
 }

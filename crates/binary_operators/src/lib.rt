@@ -6,7 +6,6 @@ mod atomics;
 mod blocks;
 mod casts;
 mod codes;
-mod equal;
 mod error;
 mod forms;
 mod integers;
@@ -18,9 +17,11 @@ mod reader;
 mod types;
 
 pub use crate::codes::access_op;
-pub use crate::equal::are_groups_equal;
 pub use crate::error::{Cause, Fault, ReadError};
+pub use crate::forms::{Form, form_of};
 pub use crate::lists::{OperatorLists, push};
+pub use crate::memory::read_memarg;
+pub use crate::numeric::{conversion_op, numeric_op};
 pub use crate::operators::{read_operator, read_operator_into};
 pub use crate::reader::BinaryReader;
 pub use crate::types::{

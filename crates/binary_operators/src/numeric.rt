@@ -149,14 +149,14 @@ static CONVERSIONS: [ConvertOp; 30] = [
 
 /// The operator on numbers of this code, if there is one.
 #[inline(always)]
-pub(crate) fn numeric_op(code: u32) -> Option<NumericOp>
+pub fn numeric_op(code: u32) -> Option<NumericOp>
     ensures { result ≡ from 0x45 numeric_ops code }
 {
     item(&NUMERIC, 0x45, code)
 }
 
 /// The conversion of this code, if there is one.
-pub(crate) fn conversion_op(code: u32) -> Option<ConvertOp>
+pub fn conversion_op(code: u32) -> Option<ConvertOp>
     ensures { result ≡ from 0xa7 conversion_ops code }
 {
     item(&CONVERSIONS, 0xa7, code)

@@ -40,9 +40,9 @@ use validate_visit::{
     Ieee64, NumericOp, Op, ResumeTable, SharedOp, TryTable,
 };
 
-/// Writes the operator, if there is one: else its code, which stands at the offset, is refused.
+/// Writes the operator of this code, if there is one: else the code, which stands at the offset, is refused.
 #[inline(always)]
-fn put<'l>(op: Option<Op<'l>>, offset: u64, to: &mut Op<'l>) -> Result<(), ReadError>
+fn put<'l>(op: Option<Op<'l>>, code: u32, offset: u64, to: &mut Op<'l>) -> Result<(), ReadError>
     ensures read { OnOk result (option_map (λ o. unplaced o) op.entry ≡ Some (unplaced to.new)) }
     ensures refused { OnErr result (option_map (λ o. unplaced o) op.entry ≡ None) }
 {
@@ -51,7 +51,7 @@ fn put<'l>(op: Option<Op<'l>>, offset: u64, to: &mut Op<'l>) -> Result<(), ReadE
             *to = op;
             Ok(())
         }
-        None => Err(ReadError::illegal(offset)),
+        None => Err(ReadError::illegal(code, offset)),
     }
 }
 
@@ -63,7 +63,7 @@ fn numeric<'l>(code: u32, offset: u64, to: &mut Op<'l>) -> Result<(), ReadError>
     ensures refused { OnErr result (from 0x45 numeric_ops code ≡ None) }
 {
     let Some(op) = numeric_op(code) else {
-        return Err(ReadError::illegal(offset));
+        return Err(ReadError::illegal(code, offset));
     };
     *to = Op::Numeric(op);
     Ok(())
@@ -76,7 +76,7 @@ fn conversion<'l>(code: u32, offset: u64, to: &mut Op<'l>) -> Result<(), ReadErr
     ensures refused { OnErr result (from 0xa7 conversion_ops code ≡ None) }
 {
     let Some(op) = conversion_op(code) else {
-        return Err(ReadError::illegal(offset));
+        return Err(ReadError::illegal(code, offset));
     };
     *to = Op::Convert(op);
     Ok(())
@@ -112,7 +112,7 @@ fn read_two_indices<'l>(
 {
     let first = reader.read_var_u32()?;
     let second = reader.read_var_u32()?;
-    put(two_index_op(code, first, second), offset, to)
+    put(two_index_op(code, first, second), code, offset, to)
 }
 
 /// Reads the index of the type of an operator of this code, which stands at the offset.
@@ -129,7 +129,7 @@ fn read_type_index<'l>(
     ensures refused { OnErr result (type_op code canonical.entry reader.old.left ≡ None) }
 {
     let ty = canonical.of(reader.read_var_u32()?);
-    put(type_op(code, ty), offset, to)
+    put(type_op(code, ty), code, offset, to)
 }
 
 /// Reads the index of the type of an operator of this code, which stands at the offset, and another index.
@@ -147,7 +147,7 @@ fn read_typed_index<'l>(
 {
     let ty = canonical.of(reader.read_var_u32()?);
     let index = reader.read_var_u32()?;
-    put(typed_index_op(code, ty, index), offset, to)
+    put(typed_index_op(code, ty, index), code, offset, to)
 }
 
 /// Reads the indices of the types of an operator of this code, which stands at the offset.
@@ -165,7 +165,7 @@ fn read_two_types<'l>(
 {
     let first = canonical.of(reader.read_var_u32()?);
     let second = canonical.of(reader.read_var_u32()?);
-    put(two_type_op(code, first, second), offset, to)
+    put(two_type_op(code, first, second), code, offset, to)
 }
 
 /// Reads the heap type of an operator of this code, which stands at the offset.
@@ -182,7 +182,7 @@ fn read_heap<'l>(
     ensures refused { OnErr result (heap_op code canonical.entry reader.old.left ≡ None) }
 {
     let ty = read_heap_type(reader, canonical)?;
-    put(heap_op(code, ty), offset, to)
+    put(heap_op(code, ty), code, offset, to)
 }
 
 /// Reads the cast of an operator of this code, which stands at the offset.
@@ -199,7 +199,7 @@ fn read_branch_cast<'l>(
     ensures refused { OnErr result (cast_op code canonical.entry reader.old.left ≡ None) }
 {
     let cast = read_cast(reader, canonical)?;
-    put(cast_op(code, cast), offset, to)
+    put(cast_op(code, cast), code, offset, to)
 }
 
 /// Reads the type of the block of an operator of this code, which stands at the offset.
@@ -216,7 +216,7 @@ fn read_block<'l>(
     ensures refused { OnErr result (block_op code canonical.entry reader.old.left ≡ None) }
 {
     let ty = read_block_type(reader, canonical)?;
-    put(block_op(code, ty), offset, to)
+    put(block_op(code, ty), code, offset, to)
 }
 
 /// Reads the place in a memory of an operator of this code, which stands at the offset.
@@ -231,7 +231,7 @@ fn read_access<'l>(
     ensures refused { OnErr result (access_op code reader.old.left ≡ None) }
 {
     let place = read_memarg(reader)?;
-    put(access_op(code, place), offset, to)
+    put(access_op(code, place), code, offset, to)
 }
 
 /// Reads the place in a memory of an atomic operator of this code, which stands at the offset.
@@ -246,7 +246,12 @@ fn read_atomic<'l>(
     ensures refused { OnErr result (atomic_op code reader.old.left ≡ None) }
 {
     let place = read_memarg(reader)?;
-    put(atomic_op(code.saturating_sub(0xfe10), place), offset, to)
+    put(
+        atomic_op(code.saturating_sub(0xfe10), place),
+        code,
+        offset,
+        to,
+    )
 }
 
 /// Reads the integer of an `i32.const`.
@@ -319,7 +324,7 @@ fn read_global<'l>(
     let ordering = read_ordering(reader)?;
     let global_index = reader.read_var_u32()?;
     let Some(access) = global_access(code) else {
-        return Err(ReadError::illegal(offset));
+        return Err(ReadError::illegal(code, offset));
     };
     *to = Op::Shared(SharedOp::Global {
         access,
@@ -343,7 +348,7 @@ fn read_table<'l>(
     let ordering = read_ordering(reader)?;
     let table_index = reader.read_var_u32()?;
     let Some(access) = table_access(code) else {
-        return Err(ReadError::illegal(offset));
+        return Err(ReadError::illegal(code, offset));
     };
     *to = Op::Shared(SharedOp::Table {
         access,
@@ -374,7 +379,7 @@ fn read_field<'l>(
         field_index,
     };
     let Some(access) = field_access(0xfe5c, code) else {
-        return Err(ReadError::illegal(offset));
+        return Err(ReadError::illegal(code, offset));
     };
     *to = Op::Shared(SharedOp::Struct {
         access,
@@ -400,7 +405,7 @@ fn read_array<'l>(
     let ordering = read_ordering(reader)?;
     let type_index = canonical.of(reader.read_var_u32()?);
     let Some(access) = field_access(0xfe67, code) else {
-        return Err(ReadError::illegal(offset));
+        return Err(ReadError::illegal(code, offset));
     };
     *to = Op::Shared(SharedOp::Array {
         access,
@@ -521,7 +526,7 @@ fn read_resume<'l>(
 {
     let ty = canonical.of(reader.read_var_u32()?);
     read_list(reader, canonical, handlers)?;
-    put(resume(code, ty, handlers.as_slice()), offset, to)
+    put(resume(code, ty, handlers.as_slice()), code, offset, to)
 }
 
 /// Reads the type of a `resume_throw`, the tag of what it throws, and its handlers, which it is lent.
@@ -596,7 +601,7 @@ fn read_by<'l>(
         Form::Field => read_field(reader, canonical, code, offset, to),
         Form::Array => read_array(reader, canonical, code, offset, to),
         Form::Vector => Err(ReadError::vector_operator(offset)),
-        Form::Illegal | Form::Prefix => Err(ReadError::illegal(offset)),
+        Form::Illegal | Form::Prefix => Err(ReadError::illegal(code, offset)),
     }
 }
 
@@ -618,7 +623,7 @@ fn read_prefixed<'l>(
 {
     let code = reader.read_var_u32()?;
     let Some(form) = form_behind(prefix, code) else {
-        return Err(ReadError::illegal(offset));
+        return Err(ReadError::no_operator(Some(prefix), code, offset));
     };
     let whole = u32::from(prefix) * 0x100 + code;
     read_by(reader, canonical, lists, form, whole, offset, to)
@@ -643,7 +648,7 @@ fn read_rare<'l>(
     match form {
         Some(Form::Prefix) => read_prefixed(reader, *canonical, lists, code, offset, to),
         Some(form) => read_by(reader, *canonical, lists, form, u32::from(code), offset, to),
-        None => Err(ReadError::illegal(offset)),
+        None => Err(ReadError::illegal(u32::from(code), offset)),
     }
 }
 

@@ -1,12 +1,12 @@
 //! Bytes and numbers of a module (WebAssembly core specification, "Binary Format: Values").
 
-ghost use Rattle.std.specs.Prelude.{ℕ, ◌≡◌, ◌≢◌, ◌≤◌, ◌<◌, ◌+◌, ◌^◌, ◌↔◌, List, [], ◌∷◌, ◌++◌, Some, None, length, take, drop, true, false, IsTrue, IfOk, OnOk, IfSome, OnErr};
-ghost use Rattle.binary_operators.specs.Integers.{unsigned, biased, signed};
+ghost use Rattle.std.specs.Prelude.{ℕ, ◌≡◌, ◌≢◌, ◌≤◌, ◌<◌, ◌+◌, ◌^◌, ◌↔◌, List, [], ◌∷◌, ◌++◌, Some, None, ◌-◌, length, take, drop, true, false, IsTrue, IfOk, OnOk, IfSome, OnErr};
+ghost use Rattle.binary_operators.specs.Integers.{unsigned, biased, signed, above};
 ghost use Rattle.binary_operators.specs.Values.{float32, float64};
 ghost use Rattle.binary_operators.specs.Types.{type_number};
 
 use crate::error::{Fault, ReadError};
-use crate::integers::{has_bits, last_biased, widened};
+use crate::integers::{has_bits, last_biased, raised};
 use std::marker::Model;
 
 /// The bytes of a module up to some end, and how many of them were read (wasmparser's `BinaryReader`).
@@ -15,6 +15,19 @@ use std::marker::Model;
 pub struct BinaryReader<'a> {
     bytes: &'a [u8],
     place: usize,
+}
+
+/// A number of several bytes, up to its last one.
+#[derive(Clone, Copy)]
+struct LongNumber {
+    /// What the bytes before the last say: so many bits.
+    low: u64,
+    /// How many bits these are.
+    shift: u32,
+    /// The last byte.
+    last: u8,
+    /// Where it stands.
+    offset: u64,
 }
 
 impl<'a> Model for BinaryReader<'a> {
@@ -265,6 +278,7 @@ impl<'a> BinaryReader<'a> {
     /// Reads a number of so many bits.
     #[inline(always)]
     fn read_unsigned(&mut self, bits: u32) -> Result<u64, ReadError>
+        requires some { 0 < bits }
         requires within { bits ≤ 64 }
         ensures below { IfOk result (λ value. value < 2 ^ bits) }
         ensures read { IfOk result (λ value. unsigned bits self.old.left ≡ Some (value, self.new.left)) }
@@ -279,25 +293,55 @@ impl<'a> BinaryReader<'a> {
     }
 
     /// Reads a number of so many bits, of any number of bytes.
+    #[inline(never)]
     fn read_long_unsigned(&mut self, bits: u32) -> Result<u64, ReadError>
+        requires some { 0 < bits }
         requires within { bits ≤ 64 }
         ensures below { IfOk result (λ value. value < 2 ^ bits) }
         ensures read { IfOk result (λ value. unsigned bits self.old.left ≡ Some (value, self.new.left)) }
         ensures refused { OnErr result (unsigned bits self.old.left ≡ None) }
     {
-        let offset = self.offset();
-        let byte = self.read_u8()?;
-        if byte < 0x80 {
-            if !has_bits(byte, bits) {
-                return Err(ReadError::malformed(Fault::IntegerTooLarge, offset));
+        let long = self.read_long(bits)?;
+        let width = bits - long.shift;
+        if !has_bits(long.last, width) {
+            return Err(ReadError::malformed(Fault::IntegerTooLarge, long.offset));
+        }
+        Ok(raised(u64::from(long.last), width, long.low, long.shift))
+    }
+
+    /// Reads the bytes of a number of so many bits, of any number of bytes, up to its last one.
+    #[inline(always)]
+    fn read_long(&mut self, bits: u32) -> Result<LongNumber, ReadError>
+        requires some { 0 < bits }
+        requires within { bits ≤ 64 }
+        ensures shift { IfOk result (λ long. long.shift < bits) }
+        ensures low { IfOk result (λ long. long.low < 2 ^ long.shift) }
+        ensures last { IfOk result (λ long. long.last < 128) }
+        ensures unsigned { IfOk result (λ long. unsigned bits self.old.left
+            ≡ above long.shift long.low (unsigned (bits - long.shift) (long.last ∷ self.new.left))) }
+        ensures biased { IfOk result (λ long. biased bits self.old.left
+            ≡ above long.shift long.low (biased (bits - long.shift) (long.last ∷ self.new.left))) }
+        ensures refused { OnErr result ((unsigned bits self.old.left ≡ None) × (biased bits self.old.left ≡ None)) }
+    {
+        let mut low = 0;
+        let mut shift = 0;
+        loop {
+            let offset = self.offset();
+            let last = self.read_u8()?;
+            if last < 0x80 {
+                return Ok(LongNumber {
+                    low,
+                    shift,
+                    last,
+                    offset,
+                });
             }
-            return Ok(u64::from(byte));
+            if bits - shift <= 7 {
+                return Err(ReadError::malformed(Fault::IntegerTooLong, offset));
+            }
+            low = raised(u64::from(last - 0x80), 7, low, shift);
+            shift += 7;
         }
-        if bits <= 7 {
-            return Err(ReadError::malformed(Fault::IntegerTooLong, offset));
-        }
-        let rest = self.read_long_unsigned(bits - 7)?;
-        Ok(widened(rest, byte - 0x80, bits))
     }
 
     /// Reads an integer of so many bits, and answers it with half of 2 to their power added, which is no
@@ -322,6 +366,7 @@ impl<'a> BinaryReader<'a> {
 
     /// Reads an integer of so many bits, of any number of bytes, and answers it with half of 2 to their power
     /// added.
+    #[inline(never)]
     fn read_long_biased(&mut self, bits: u32) -> Result<u64, ReadError>
         requires some { 0 < bits }
         requires within { bits ≤ 64 }
@@ -329,19 +374,12 @@ impl<'a> BinaryReader<'a> {
         ensures read { IfOk result (λ value. biased bits self.old.left ≡ Some (value, self.new.left)) }
         ensures refused { OnErr result (biased bits self.old.left ≡ None) }
     {
-        let offset = self.offset();
-        let byte = self.read_u8()?;
-        if byte < 0x80 {
-            return match last_biased(byte, bits) {
-                Some(value) => Ok(value),
-                None => Err(ReadError::malformed(Fault::IntegerTooLarge, offset)),
-            };
+        let long = self.read_long(bits)?;
+        let width = bits - long.shift;
+        match last_biased(long.last, width) {
+            Some(value) => Ok(raised(value, width, long.low, long.shift)),
+            None => Err(ReadError::malformed(Fault::IntegerTooLarge, long.offset)),
         }
-        if bits <= 7 {
-            return Err(ReadError::malformed(Fault::IntegerTooLong, offset));
-        }
-        let rest = self.read_long_biased(bits - 7)?;
-        Ok(widened(rest, byte - 0x80, bits))
     }
 
     /// Reads how many bytes there are, and answers a reader of these, which are read, as [`BinaryReader::part`].

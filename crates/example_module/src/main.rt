@@ -1,5 +1,6 @@
-//! Reads a binary module from standard input, and prints the body of its first function that isn't imported, operator by
-//! operator: where each begins, its name, and the types of the operands behind it, the lowest first.
+//! Reads a binary module from standard input, and prints the body of the function that a word names by its index or its
+//! name, or else of the first that isn't imported, operator by operator: where each begins, its name, and the types of the
+//! operands behind it, the lowest first.
 #![tactic(auto)]
 
 ghost use Rattle.std.specs.Prelude.{◌≡◌, None, IfOk};
@@ -10,8 +11,8 @@ use module_check::{
     CheckError, CodeReader, LoadedModule, ModuleFeatures, OperatorLists, Verdict, operator_name,
 };
 use std::alloc::Global;
-use std::io;
 use std::io::Read;
+use std::{env, io};
 use wasmparser_validate::operators::{OperatorValidator, OperatorValidatorAllocations};
 use wasmparser_validate::resources::WasmModuleResources;
 use wasmparser_validate::types::{Error, WasmFeatures};
@@ -120,6 +121,43 @@ fn print_body(rt: &HostRuntime, module: &LoadedModule<'_>, function: u32) -> io:
     Ok(verdict.under(&features))
 }
 
+/// Whether a word is the index or the name of a function.
+fn is_named(word: &str, function: u32, name: Option<&str>) -> bool {
+    match word.parse::<u32>() {
+        Ok(index) => index == function,
+        Err(_) => name == Some(word),
+    }
+}
+
+/// The function that a word names, if the module has a body for it.
+fn function_named(alloc: Global, module: &LoadedModule<'_>, word: &str) -> Option<u32> {
+    let names = module.names(alloc).ok()?;
+    for body in 0..module.body_count() {
+        let function = module.function_of(body);
+        if is_named(word, function, names.of(function)) {
+            return Some(function);
+        }
+    }
+    None
+}
+
+/// Prints the body of the function that the first word names, or of the first function where there is no word.
+fn print_named(rt: &HostRuntime, module: &LoadedModule<'_>) -> io::Result<()> {
+    let mut words = env::args(rt)?;
+    let _program = words.next();
+    let function = match words.next() {
+        Some(word) => function_named(rt.alloc(), module, word.as_str()),
+        None => Some(module.function_of(0)),
+    };
+    match function {
+        Some(function) => {
+            let verdict = print_body(rt, module, function)?;
+            print_verdict(rt, &verdict)
+        }
+        None => println!(rt; "the module has no such body"),
+    }
+}
+
 /// Prints what a body or a module comes to.
 fn print_verdict(rt: &HostRuntime, verdict: &Verdict) -> io::Result<()> {
     match verdict {
@@ -134,10 +172,7 @@ fn main(rt: HostRuntime) -> io::Result<()> {
     let mut bytes = Vec::new(rt.alloc());
     rt.reader().read_to_end(&mut bytes)?;
     match LoadedModule::new(rt.alloc(), &bytes, ModuleFeatures::DEFAULT) {
-        Ok(module) => {
-            let verdict = print_body(&rt, &module, module.function_of(0))?;
-            print_verdict(&rt, &verdict)
-        }
+        Ok(module) => print_named(&rt, &module),
         Err(verdict) => print_verdict(&rt, &verdict),
     }
 }

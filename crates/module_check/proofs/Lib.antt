@@ -2,7 +2,9 @@ pub mod Begun
 pub mod Behind
 pub mod Counted
 pub mod FirstBytes
+pub mod Forms
 pub mod Groups
+pub mod Row
 pub mod Sections
 pub mod Turned
 pub mod Unplaced

@@ -3,6 +3,7 @@ pub mod Begin
 pub mod Constant
 pub mod EmptySections
 pub mod FirstBytes
+pub mod Items
 pub mod Loaded
 pub mod Refusals
 pub mod Safe

@@ -134,3 +134,10 @@ pub record IsValid (m : LoadedModule) : Type 0 where
   pub declarations_valid : IsValidModule (features_of m) (declarations m)
   pub is_lookup : module_of (lookup_lists (declarations m)) ≡ Some (declared_lists m.lists)
   pub code_safe : IsSafeModule m
+
+-- These bytes are those of a valid module, under these proposals.
+pub record AreValidModule (features : ModuleFeatures) (bytes : List ℕ) : Type 0 where
+  pub loaded : LoadedModule
+  pub of_bytes : bytes_of loaded ≡ bytes
+  pub under : features_of loaded ≡ features
+  pub is_valid : IsValid loaded

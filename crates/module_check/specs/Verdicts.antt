@@ -1,9 +1,17 @@
 -- What a module's verdict says (the crate's own).
-use Rattle.std.specs.Prelude.{◌≡◌, ◌≢◌, ◌<◌, ◌≤◌, ℕ}
+use Rattle.std.specs.Prelude.{◌≡◌, ◌≢◌, ◌<◌, ◌≤◌, ℕ, Option, Some, None}
+use Rattle.module_check.specs.declared.outcome.Outcome.{Outcome}
+use Rattle.module_check.specs.declared.outcome.Outcome.TheVariants.{Valid, Invalid, Unreadable}
+use Rattle.module_check.specs.declared.outcome.Outcome.TheVariants.{Malformed as IsMalformed}
+use Rattle.module_check.specs.declared.outcome.Outcome.TheVariants.{NotCovered as IsNotCovered}
+use Rattle.module_check.specs.declared.outcome.Outcome.TheVariants.{OutOfMemory as IsOutOfMemory}
 use Rattle.module_check.specs.declared.module_verdict.ModuleVerdict.{ModuleVerdict}
+use Rattle.module_check.specs.declared.verdict.Item.{Item}
+use Rattle.module_check.specs.declared.verdict.Item.TheVariants.{Function, Expression}
 use Rattle.module_check.specs.declared.verdict.Verdict.{Verdict}
 use Rattle.module_check.specs.declared.verdict.Verdict.TheVariants.{Accepted, Refused, Malformed}
 use Rattle.module_check.specs.declared.verdict.Verdict.TheVariants.{NotCovered, OutOfMemory}
+use Rattle.module_rules.specs.declared.module.Place.TheVariants.{Table, Global, ElementOffset, Element, DataOffset}
 
 -- The status says what the counts say, and the text that is reported stands in this room.
 pub record IsConsistent (room : ℕ) (v : ModuleVerdict) : Type 0 where
@@ -24,3 +32,59 @@ status_of (Refused e) = 1
 status_of (Malformed e) = 2
 status_of OutOfMemory = 3
 status_of (NotCovered offset) = 4
+
+-- what a verdict comes to
+abbrev pub outcome_of : Verdict → Outcome
+outcome_of Accepted = Valid
+outcome_of (Refused e) = Invalid
+outcome_of (Malformed e) = IsMalformed
+outcome_of OutOfMemory = IsOutOfMemory
+outcome_of (NotCovered offset) = IsNotCovered
+
+-- how grave it is
+abbrev pub weight : Outcome → ℕ
+weight Valid = 0
+weight IsNotCovered = 1
+weight Invalid = 2
+weight IsMalformed = 3
+weight Unreadable = 4
+weight IsOutOfMemory = 5
+
+-- its status
+abbrev pub status : Outcome → ℕ
+status Valid = 0
+status Invalid = 1
+status IsMalformed = 2
+status IsOutOfMemory = 3
+status IsNotCovered = 4
+status Unreadable = 5
+
+-- the kind of what is checked, and its index; nothing is the module as a whole
+abbrev pub kind_of : Item → ℕ
+kind_of (Function i) = 0
+kind_of (Expression (Table i)) = 1
+kind_of (Expression (Global i)) = 2
+kind_of (Expression (ElementOffset i)) = 3
+kind_of (Expression (Element i)) = 4
+kind_of (Expression (DataOffset i)) = 5
+
+abbrev pub index_of : Item → ℕ
+index_of (Function i) = i
+index_of (Expression (Table i)) = i
+index_of (Expression (Global i)) = i
+index_of (Expression (ElementOffset i)) = i
+index_of (Expression (Element i)) = i
+index_of (Expression (DataOffset i)) = i
+
+abbrev pub item_kind : Option Item → ℕ
+item_kind (Some item) = kind_of item
+item_kind None = 6
+
+abbrev pub item_index : Option Item → ℕ
+item_index (Some item) = index_of item
+item_index None = 0
+
+-- what is reported is this item, or the module as a whole
+pub record Reports (item : Option Item) (v : ModuleVerdict) : Type 0 where
+  pub kind : v.kind ≡ item_kind item
+  pub index : v.index ≡ item_index item

@@ -66,9 +66,9 @@ fn check_body_from<R: WasmModuleResources>(
 ///   that closes the body; or an operator isn't constant; or it is one on vectors, and their proposal is off.
 /// - `Malformed`: it can't be read.
 /// - `NotCovered`: a vector operator stands after operators that are accepted, and its proposal is on.
-/// - `OutOfMemory`: there was no memory for the check.
+/// - `OutOfMemory`: memory ran out.
 ///
-/// But for want of memory a body is accepted exactly if its bytes are locals and operators whose rules all hold. Vector
+/// Unless memory runs out, a body is accepted exactly if its bytes are locals and operators whose rules all hold. Vector
 /// operators have no rule here.
 pub fn check_body<R: WasmModuleResources>(
     resources: &R,
@@ -85,6 +85,7 @@ pub fn check_body<R: WasmModuleResources>(
         features.now canonical.entry kind (may_stand constant.entry) reader.old.left }
     ensures covered { (offset : ℕ) → result ≡ NotCovered offset → has features.now simd ≡ true }
 {
+    let alloc = buffers.allocator();
     let BodyBuffers {
         validator,
         lists,
@@ -95,7 +96,7 @@ pub fn check_body<R: WasmModuleResources>(
             let checked = check_body_from(
                 validator, resources, reader, canonical, lists, kind, constant,
             );
-            Verdict::of_check(checked).under(features)
+            Verdict::of_check_in(alloc, checked).under(features)
         }
         Err(refusal) => Verdict::of_refusal(refusal),
     }

@@ -133,7 +133,7 @@ fn common_of(code: u8) -> Common
 /// Whether the operator that the bytes begin with passes at once: its row is that of the one that is handed in. Then
 /// it is read; otherwise nothing is changed.
 #[inline(always)]
-fn passes<'a, R: WasmModuleResources>(
+pub(crate) fn passes<'a, R: WasmModuleResources>(
     v: &mut OperatorValidator,
     resources: &R,
     reader: &mut BinaryReader<'a>,

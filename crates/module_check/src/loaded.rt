@@ -18,10 +18,8 @@ use crate::constant::ConstantPlace;
 use crate::unbodied::LoadedDeclarations;
 use crate::verdict::Verdict;
 use binary_modules::{ConstantExpression, FunctionNames, Module, read_function_names, read_module};
-use binary_operators::{BinaryReader, CanonicalTypes, Cause, Fault, ReadError};
-use module_rules::{
-    DeclaredModule, ModuleFeatures, expression_type, lookup_lists, unknown_type, validate_module,
-};
+use binary_operators::{BinaryReader, CanonicalTypes, ReadError};
+use module_rules::{DeclaredModule, ModuleFeatures, expression_type, valid_lookup};
 use std::alloc::Global;
 use validate_resources::{ModuleLists, WasmModuleResources};
 use validate_types::Error;
@@ -76,7 +74,10 @@ impl<'a> LoadedModule<'a> {
     {
         match read_module(alloc, bytes) {
             Ok(module) => LoadedModule::of_module(alloc, bytes, features, module),
-            Err(error) => Err(unread_module(alloc, error).under(&features.operator_features())),
+            Err(error) => {
+                let verdict = Verdict::of_read_error_in(alloc, error);
+                Err(verdict.under(&features.operator_features()))
+            }
         }
     }
 
@@ -329,6 +330,7 @@ impl<'a> LoadedModule<'a> {
             features: self.features,
             declared: &self.declared,
             place,
+            bytes: self.bytes,
         };
         self.check_bytes(
             BodyKind::Expression(ty),
@@ -336,38 +338,6 @@ impl<'a> LoadedModule<'a> {
             &expression.bytes,
             buffers,
         )
-    }
-}
-
-/// The lookup over what a module declares, if that is valid under these proposals. It refuses as
-/// [`validate_module`] does, and for want of memory.
-fn valid_lookup(
-    alloc: Global,
-    declared: &DeclaredModule,
-    features: ModuleFeatures,
-) -> Result<ModuleLists, Error>
-    ensures valid { OnOk result (IsValidModule features (declarations_of declared.now)) }
-    ensures lookup { IfOk result (λ m. module_of (lookup_lists (declarations_of declared.now))
-        ≡ Some (declared_lists m)) }
-    ensures invalid { IfErr result (λ e. e.wants_memory ≡ false
-        → is_valid_module features (declarations_of declared.now) ≡ false) }
-{
-    validate_module(alloc, declared, features)?;
-    match lookup_lists(alloc, declared) {
-        Ok(lists) => ModuleLists::from_declarations(alloc, lists),
-        Err(_) => Err(Error::out_of_memory(0)),
-    }
-}
-
-/// What comes of bytes that aren't read as a module for this: the text of a type that isn't there names its index.
-fn unread_module(alloc: Global, error: ReadError) -> Verdict
-    ensures { result ≢ Accepted }
-{
-    match error.cause {
-        Cause::Malformed(Fault::UnknownType(index)) => {
-            Verdict::of_refusal(unknown_type(alloc, index, error.offset))
-        }
-        _ => Verdict::of_read_error(error),
     }
 }
 

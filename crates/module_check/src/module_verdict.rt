@@ -2,34 +2,11 @@
 
 ghost use Rattle.std.specs.Prelude.{◌≡◌, ◌≢◌, ◌⊎◌, ◌<◌, ◌≤◌, length, take};
 ghost use Rattle.module_check.specs.declared.verdict.Verdict.TheVariants.{Accepted, OutOfMemory};
-ghost use Rattle.module_check.specs.Verdicts.{IsConsistent, SaysNo, status_of};
+ghost use Rattle.module_check.specs.Verdicts.{IsConsistent, SaysNo, status_of, item_kind, item_index, Reports};
 
+use crate::outcome::{INVALID, MALFORMED, NOT_COVERED, OUT_OF_MEMORY, VALID};
 use crate::reasons::reason_number;
 use crate::verdict::{Item, Verdict};
-use module_rules::Place;
-
-/// The status of a valid module: what it declares is valid, and each body and each constant expression is
-/// accepted.
-pub const VALID: u32 = 0;
-
-/// The status of an invalid module: what it declares isn't valid, or a body or a constant expression is
-/// refused.
-pub const INVALID: u32 = 1;
-
-/// The status where the bytes aren't those of a module.
-pub const MALFORMED: u32 = 2;
-
-/// The status if memory ran out.
-pub const OUT_OF_MEMORY: u32 = 3;
-
-/// The status if nothing is refused, and something isn't covered.
-pub const NOT_COVERED: u32 = 4;
-
-/// The status where the module has no body for the function.
-pub const NO_BODY: u32 = 5;
-
-/// The status where there is no module.
-pub const NOT_LOADED: u32 = 6;
 
 /// The kind of what is reported where it is the module as a whole.
 const MODULE: u32 = 6;
@@ -39,7 +16,7 @@ const MODULE: u32 = 6;
 #[repr(C)]
 #[derive(Drop)]
 pub struct ModuleVerdict {
-    /// The status, one of those above.
+    /// The status: what it comes to, as [`crate::Outcome`] has it.
     pub status: u32,
     /// What is reported: 0 the body of a function; 1 to 5 a constant expression, that of a table or a global, the
     /// offset of an element segment, an item of one, the offset of a data segment; 6 the module.
@@ -63,14 +40,15 @@ pub struct ModuleVerdict {
 }
 
 /// The kind and the index of what is reported.
-fn kind_and_index(item: Option<Item>) -> (u32, u64) {
+fn kind_and_index(item: Option<Item>) -> (u32, u64)
+    ensures kind { result.0 ≡ item_kind item }
+    ensures index { result.1 ≡ item_index item }
+{
     match item {
-        Some(Item::Function(index)) => (0, u64::from(index)),
-        Some(Item::Expression(Place::Table(index))) => (1, u64::from(index)),
-        Some(Item::Expression(Place::Global(index))) => (2, u64::from(index)),
-        Some(Item::Expression(Place::ElementOffset(index))) => (3, u64::from(index)),
-        Some(Item::Expression(Place::Element(index))) => (4, u64::from(index)),
-        Some(Item::Expression(Place::DataOffset(index))) => (5, u64::from(index)),
+        Some(item) => {
+            let named = item.named();
+            (named.kind, u64::from(named.index))
+        }
         None => (MODULE, 0),
     }
 }
@@ -122,6 +100,7 @@ impl ModuleVerdict {
         ensures accepted { self.new.accepted ≡ self.old.accepted }
         ensures refused { self.new.refused ≡ self.old.refused }
         ensures not_covered { self.new.not_covered ≡ self.old.not_covered }
+        ensures reported { Reports item self.new }
         ensures fits { self.new.text_length ≤ length text.new }
         ensures needed { self.new.text_needed ≡ length message.now }
     {
@@ -148,7 +127,8 @@ impl ModuleVerdict {
         requires { IsConsistent (length text.old) self.old }
         ensures consistent { IsConsistent (length text.new) self.new }
         ensures not_accepted { self.new.status ≢ 0 }
-        ensures first { self.old.status ≡ 0 → self.new.status ≡ 4 }
+        ensures first { self.old.status ≡ 0 → (self.new.status ≡ 4) × Reports item self.new }
+        ensures known { self.old.status ≤ 4 → self.new.status ≤ 4 }
     {
         self.not_covered = self.not_covered.saturating_add(1);
         if self.status == VALID {
@@ -164,6 +144,8 @@ impl ModuleVerdict {
         ensures refused { SaysNo self.new.status → SaysNo self.old.status
             ⊎ ((verdict.now ≢ Accepted) × (verdict.now ≢ OutOfMemory)) }
         ensures first { self.old.status ≡ 0 → self.new.status ≡ status_of verdict.now }
+        ensures reported { self.old.status ≡ 0 → self.new.status ≢ 0 → Reports item self.new }
+        ensures known { self.old.status ≤ 4 → self.new.status ≤ 4 }
     {
         match verdict {
             Verdict::Accepted => self.accepted = self.accepted.saturating_add(1),

@@ -17,6 +17,7 @@ ghost use Rattle.module_check.specs.Turns.{IsTurn};
 use crate::common::passes_common;
 use crate::constant::ConstantPlace;
 use crate::expression::check_constant_operators;
+use crate::told::passes_told;
 use crate::verdict::CheckError;
 use binary_operators::{
     BinaryReader, CanonicalTypes, OperatorLists, ReadError, read_operator_into, read_value_type,
@@ -123,7 +124,29 @@ fn is_any_accepted<R: WasmModuleResources>(
     is_accepted(v, resources, offset, &op, refusal)
 }
 
-/// [`is_any_accepted`], which tries first whether it is one of those that most code is made of. The call is lent another
+/// [`is_any_accepted`], which tries first whether the first byte tells how the operator is read.
+#[inline(always)]
+fn is_read_accepted<R: WasmModuleResources>(
+    v: &mut OperatorValidator,
+    resources: &R,
+    reader: &mut BinaryReader<'_>,
+    canonical: &CanonicalTypes<'_>,
+    lists: &mut OperatorLists,
+    refusal: &mut Option<CheckError>,
+) -> bool
+    requires { MayVisit (R.context resources.now) (stacks_of v.old) }
+    ensures turn { result ≡ true → IsTurn (R.context resources.now) canonical.now reader.old.left reader.new.left
+        (state v.old) (state v.new) }
+    ensures told { result ≡ false → IsSome refusal.new }
+    ensures refused { result ≡ false → IfSome refusal.new (λ e. IsRefusal e
+        → ¬ AreAcceptedOperators (R.context resources.now) canonical.now (may_stand None) (state v.old)
+        reader.old.left) }
+{
+    passes_told(v, resources, reader)
+        || is_any_accepted(v, resources, reader, canonical, lists, refusal)
+}
+
+/// [`is_read_accepted`], which tries first whether it is one of those that most code is made of. The call is lent another
 /// reader, so that this one needn't lie in memory.
 #[inline(always)]
 fn is_next_accepted<'a, R: WasmModuleResources>(
@@ -147,7 +170,7 @@ fn is_next_accepted<'a, R: WasmModuleResources>(
         return true;
     }
     *lent = reader.duplicate();
-    let is_accepted = is_any_accepted(v, resources, lent, canonical, lists, refusal);
+    let is_accepted = is_read_accepted(v, resources, lent, canonical, lists, refusal);
     *reader = lent.duplicate();
     is_accepted
 }

@@ -3,12 +3,14 @@
 ghost use Rattle.std.specs.Prelude.{◌≡◌, ◌≢◌, ◌↔◌, ℕ, true, false, IsOk, IfErr};
 ghost use Rattle.binary_operators.specs.declared.error.Cause.TheVariants.{OutOfMemory as NoMemory};
 ghost use Rattle.module_check.specs.Refusals.{IsRefusal, IsInvalid};
+ghost use Rattle.module_check.specs.Verdicts.{kind_of, index_of};
 ghost use Rattle.module_check.specs.declared.verdict.Verdict.TheVariants.{Accepted, Refused, NotCovered, OutOfMemory};
 ghost use Rattle.validate_types.specs.Features.{has, simd};
 ghost use Rattle.validate_types.specs.declared.error.Error.{Error};
 
 use binary_operators::{Cause, Fault, ReadError};
 use module_rules::Place;
+use std::alloc::Global;
 use std::fmt;
 use validate_types::{Error, WasmFeatures};
 
@@ -21,24 +23,63 @@ pub enum Item {
     Expression(Place),
 }
 
+/// How an item is named: what it belongs to, the index of that, and which part of it.
+#[derive(Clone, Copy)]
+pub struct ItemName {
+    /// The number of its kind, for callers in C.
+    pub kind: u32,
+    /// What it belongs to.
+    pub word: &'static str,
+    /// The index of that.
+    pub index: u32,
+    /// Which part of it, behind a space.
+    pub part: &'static str,
+}
+
+impl ItemName {
+    fn new(kind: u32, word: &'static str, index: u32, part: &'static str) -> ItemName
+        ensures kind { result.kind ≡ kind }
+        ensures index { result.index ≡ index }
+    {
+        ItemName {
+            kind,
+            word,
+            index,
+            part,
+        }
+    }
+}
+
 impl Item {
-    /// What it belongs to, the index of that, and which part of it, behind a space.
-    pub fn words(self) -> (&'static str, u32, &'static str) {
+    /// How it is named.
+    pub fn named(self) -> ItemName
+        ensures kind { result.kind ≡ kind_of self }
+        ensures index { result.index ≡ index_of self }
+    {
         match self {
-            Item::Function(index) => ("func", index, ""),
-            Item::Expression(Place::Table(index)) => ("table", index, " init"),
-            Item::Expression(Place::Global(index)) => ("global", index, " init"),
-            Item::Expression(Place::ElementOffset(index)) => ("elem", index, " offset"),
-            Item::Expression(Place::Element(index)) => ("elem", index, " item"),
-            Item::Expression(Place::DataOffset(index)) => ("data", index, " offset"),
+            Item::Function(index) => ItemName::new(0, "func", index, ""),
+            Item::Expression(Place::Table(index)) => ItemName::new(1, "table", index, " init"),
+            Item::Expression(Place::Global(index)) => ItemName::new(2, "global", index, " init"),
+            Item::Expression(Place::ElementOffset(index)) => {
+                ItemName::new(3, "elem", index, " offset")
+            }
+            Item::Expression(Place::Element(index)) => ItemName::new(4, "elem", index, " item"),
+            Item::Expression(Place::DataOffset(index)) => {
+                ItemName::new(5, "data", index, " offset")
+            }
         }
     }
 }
 
 impl fmt::Display for Item {
     fn fmt<W: fmt::Write>(&self, f: &mut fmt::Formatter<W>) -> fmt::Result {
-        let (kind, index, part) = self.words();
-        write!(f, "{kind} {index}{part}")
+        let ItemName {
+            word,
+            index,
+            part,
+            ..
+        } = self.named();
+        write!(f, "{word} {index}{part}")
     }
 }
 
@@ -53,7 +94,7 @@ pub enum Verdict {
     Malformed(Error),
     /// It has a vector operator at this offset, which isn't covered, and nothing before is refused.
     NotCovered(u64),
-    /// There was no memory for the check.
+    /// Memory ran out.
     OutOfMemory,
 }
 
@@ -108,7 +149,19 @@ impl Verdict {
         }
     }
 
-    /// The verdict of a refusal: `Refused`, unless it is want of memory.
+    /// [`Verdict::of_check`], with the number that the text of a fault has; or there is no memory for that.
+    pub fn of_check_in(alloc: Global, checked: Result<(), CheckError>) -> Verdict
+        ensures accepted { (result ≡ Accepted) ↔ IsOk checked }
+        ensures refused { result ≢ Accepted → result ≢ OutOfMemory → IfErr checked IsRefusal }
+    {
+        match checked {
+            Ok(()) => Verdict::Accepted,
+            Err(CheckError::Unread(error)) => Verdict::of_read_error_in(alloc, error),
+            Err(CheckError::Refused(refusal)) => Verdict::of_refusal(refusal),
+        }
+    }
+
+    /// The verdict of a refusal: `Refused`, unless memory ran out.
     pub fn of_refusal(refusal: Error) -> Verdict
         ensures not_accepted { result ≢ Accepted }
         ensures refused { (e : Error) → result ≡ Refused e → refusal.wants_memory ≡ false }
@@ -145,30 +198,45 @@ impl Verdict {
         }
     }
 
-    /// The verdict where bytes can't be read for this. Some of what the reader refuses is of the binary format,
-    /// but not valid: types that aren't there, and several supertypes.
-    fn of_fault(fault: Fault, offset: u64) -> Verdict
+    /// The verdict where bytes can't be read for this, which is told so. Some of what the reader refuses is of the binary
+    /// format, but not valid: an index of 2^20 or more, and several supertypes.
+    fn of_fault(fault: Fault, refusal: Error) -> Verdict
         ensures not_accepted { result ≢ Accepted }
         ensures memory { result ≢ OutOfMemory }
     {
-        let refusal = Error::new(fault.text(), offset);
         match fault {
-            Fault::UnknownType(_) | Fault::TypeIndexTooLarge | Fault::SeveralSupertypes => {
-                Verdict::Refused(refusal)
-            }
+            Fault::TypeIndexTooLarge | Fault::SeveralSupertypes => Verdict::Refused(refusal),
             _ => Verdict::Malformed(refusal),
         }
     }
 
-    /// The verdict where bytes can't be read.
+    /// The verdict where bytes can't be read. Its text has no numbers.
     pub fn of_read_error(error: ReadError) -> Verdict
         ensures not_accepted { result ≢ Accepted }
         ensures memory { result ≢ OutOfMemory → error.cause ≢ NoMemory }
     {
         match error.cause {
-            Cause::Malformed(fault) => Verdict::of_fault(fault, error.offset),
+            Cause::Malformed(fault) => {
+                Verdict::of_fault(fault, Error::new(fault.text(), error.offset))
+            }
             Cause::VectorOperator => Verdict::NotCovered(error.offset),
             Cause::OutOfMemory => Verdict::OutOfMemory,
+        }
+    }
+
+    /// [`Verdict::of_read_error`], with the number that the text of a fault has; or there is no memory for that.
+    pub fn of_read_error_in(alloc: Global, error: ReadError) -> Verdict
+        ensures not_accepted { result ≢ Accepted }
+        ensures memory { result ≢ OutOfMemory → error.cause ≢ NoMemory }
+    {
+        match error.cause {
+            Cause::Malformed(fault) if fault.has_number() => {
+                match format!(in alloc; "{fault}") {
+                    Ok(text) => Verdict::of_fault(fault, Error::with_text(text, error.offset)),
+                    Err(_) => Verdict::OutOfMemory,
+                }
+            }
+            _ => Verdict::of_read_error(error),
         }
     }
 }

@@ -1,33 +1,15 @@
 //! The check of a module.
 
-ghost use Rattle.std.specs.Prelude.{◌≡◌, ◌⊎◌, length};
-ghost use Rattle.module_check.specs.Loaded.{AreSafeExpressions, IsAcceptedFunction, IsAcceptedModule};
+ghost use Rattle.std.specs.Prelude.{◌≡◌, ◌⊎◌, ◌≤◌, length};
+ghost use Rattle.module_check.specs.Loaded.{IsAcceptedFunction, IsAcceptedModule};
 ghost use Rattle.module_check.specs.Loaded.{IsSafeFunction, IsValid};
 ghost use Rattle.module_check.specs.Verdicts.{IsConsistent, SaysNo};
 
 use crate::buffers::BodyBuffers;
+use crate::items::{check_item, item_count};
 use crate::loaded::LoadedModule;
 use crate::module_verdict::ModuleVerdict;
 use crate::verdict::Item;
-
-/// Checks each constant expression.
-fn check_expressions(
-    module: &LoadedModule<'_>,
-    buffers: &mut BodyBuffers,
-    text: &mut [u8],
-    out: &mut ModuleVerdict,
-)
-    requires { IsConsistent (length text.old) out.old }
-    ensures consistent { IsConsistent (length text.new) out.new }
-    ensures accepted { out.new.status ≡ 0 → (out.old.status ≡ 0)
-        × AreSafeExpressions module.now (length module.now.expressions.items) }
-    ensures refused { SaysNo out.new.status → SaysNo out.old.status ⊎ ¬ IsAcceptedModule module.now }
-{
-    for expression in module.expressions() {
-        let verdict = module.check_expression(expression, buffers);
-        out.note(&verdict, Some(Item::Expression(expression.place)), text);
-    }
-}
 
 /// Checks the body of the function at this index, and notes what it comes to.
 pub fn check_function(
@@ -42,6 +24,7 @@ pub fn check_function(
     ensures accepted { out.new.status ≡ 0 → (out.old.status ≡ 0)
         × IsSafeFunction module.now function }
     ensures refused { SaysNo out.new.status → SaysNo out.old.status ⊎ ¬ IsAcceptedFunction module.now function }
+    ensures known { out.old.status ≤ 4 → out.new.status ≤ 4 }
 {
     let verdict = module.check_function(function, buffers);
     out.note(&verdict, Some(Item::Function(function)), text);
@@ -53,7 +36,7 @@ pub fn check_function(
 /// were checked as it was read; each body and each constant expression is type safe; the operators of constant
 /// expressions are constant.
 ///
-/// If it is one but that of want of memory, it was such a one before, or one of them isn't accepted.
+/// If it is neither 0 nor that of out of memory, it was neither before, or one of them isn't accepted.
 pub fn check_module(
     module: &LoadedModule<'_>,
     buffers: &mut BodyBuffers,
@@ -64,10 +47,10 @@ pub fn check_module(
     ensures consistent { IsConsistent (length text.new) out.new }
     ensures accepted { out.new.status ≡ 0 → IsValid module.now }
     ensures refused { SaysNo out.new.status → SaysNo out.old.status ⊎ ¬ IsAcceptedModule module.now }
+    ensures known { out.old.status ≤ 4 → out.new.status ≤ 4 }
 {
-    check_expressions(module, buffers, text, out);
-    for index in 0..module.body_count() {
-        let function = module.function_of(index);
-        check_function(module, function, buffers, text, out);
+    for place in 0..item_count(module) {
+        let checked = check_item(module, place, buffers);
+        out.note(&checked.verdict, Some(checked.item), text);
     }
 }

@@ -1,30 +1,36 @@
 -- Names that differ, one more at a time, and a set that holds them.
 use Rattle.std.proofs.Common.{◌≡◌, ◌∙◌, ℕ, Bool, true, false, ◌&&◌, ◌||◌, not, cond, List, [], ◌∷◌, ◌++◌}
-use Rattle.std.proofs.Common.{map, take, drop, Bor, refl, ap, sym}
+use Rattle.std.proofs.Common.{map, take, drop, length, Bor, refl, ap, sym, arith, ◌==◌}
 use Rattle.std.specs.BTreeSet.{BTreeSet, contains, Updates}
 use Rattle.std.specs.Cmp.Lexicographic.{slice_cmp}
 use Rattle.std.specs.List.{list_any}
-use Rattle.std.specs.Ordering.{nat_cmp}
+use Rattle.std.specs.Ordering.{nat_cmp, ordering_then, is_eq}
 use Rattle.std.specs.Str.{bytes_eq}
 use Rattle.std.specs.declared.cmp.Ordering.{Ordering}
-use Rattle.std.proofs.lemmas.Bool.{and_parts, and_from, not_from_false, false_from_ne_true}
+use Rattle.std.specs.declared.cmp.Ordering.TheVariants.{Less, Equal, Greater}
+use Rattle.std.proofs.lemmas.Bool.{le-ltb, eq-eqb, and_parts, and_from, not_from_false, false_from_ne_true}
 use Rattle.std.proofs.lemmas.Cmp.{nat_list_eq_equiv}
 use Rattle.std.proofs.lemmas.List.{map-append, take-append-drop}
 use Rattle.std.proofs.lemmas.List.Folds.{list_any-append}
 use Rattle.std.proofs.lemmas.Map.Text.{is_eq-slice_cmp}
+use Rattle.std.proofs.lemmas.Slice.Eq.{bytes_eq-Decides}
 use Rattle.module_rules.specs.Exported.{Exported}
 use Rattle.module_rules.specs.Exports.{are_distinct}
 
 abbrev pub names_of : List Exported → List (List ℕ)
 names_of es = map (λ (e : Exported). e.name) es
 
--- the order of texts
-abbrev pub text_order : Bor (List ℕ) → Bor (List ℕ) → Ordering
-text_order x y = slice_cmp nat_cmp x.now y.now
+-- a name with its length
+abbrev pub keyed : Bor (List ℕ) → ℕ × Bor (List ℕ)
+keyed name = (length name.now, name)
+
+-- the order of names: by their lengths, then by their texts
+abbrev pub key_order : ℕ × Bor (List ℕ) → ℕ × Bor (List ℕ) → Ordering
+key_order x y = ordering_then (nat_cmp x.0 y.0) (slice_cmp nat_cmp x.1.now y.1.now)
 
 -- the set holds these names, and no others
-abbrev pub Holds : BTreeSet (Bor (List ℕ)) → List (List ℕ) → Type 0
-Holds s names = (q : Bor (List ℕ)) → contains text_order s q ≡ list_any (bytes_eq q.now) names
+abbrev pub Holds : BTreeSet (ℕ × Bor (List ℕ)) → List (List ℕ) → Type 0
+Holds s names = (q : Bor (List ℕ)) → contains key_order s (keyed q) ≡ list_any (bytes_eq q.now) names
 
 flips : (x y : List ℕ) → bytes_eq x y ≡ bytes_eq y x
 flips x y = nat_list_eq_equiv.symm x y
@@ -43,11 +49,32 @@ any-push q name names =
     ∙ chosen (list_any (bytes_eq q) names) (bytes_eq q name)
     ∙ sym (list_any-append (bytes_eq q) names (name ∷ []))
 
+level : (n : ℕ) → nat_cmp n n ≡ Equal
+level n =
+    ap (λ b. cond b Less (cond (n == n) Equal Greater)) (le-ltb n n (omega arith))
+    ∙ ap (λ b. cond b Equal Greater) (eq-eqb n n refl)
+
+unlike : (k r : Ordering) → is_eq r ≡ false → is_eq (ordering_then k r) ≡ false
+unlike Less r h = refl
+unlike Equal r h = h
+unlike Greater r h = refl
+
+-- names are equal in this order exactly if they are
+same-name : (x y : Bor (List ℕ)) → is_eq (key_order (keyed x) (keyed y)) ≡ bytes_eq x.now y.now
+same-name x y = cases (bytes_eq x.now y.now) refl
+  where
+    alike : x.now ≡ y.now → is_eq (key_order (keyed x) (keyed y)) ≡ is_eq (slice_cmp nat_cmp x.now y.now)
+    alike e = ap (λ k. is_eq (ordering_then k (slice_cmp nat_cmp x.now y.now))) (ap (λ (n : List ℕ). nat_cmp (length x.now) (length n)) (sym e) ∙ level (length x.now))
+
+    cases : (b : Bool) → bytes_eq x.now y.now ≡ b → is_eq (key_order (keyed x) (keyed y)) ≡ bytes_eq x.now y.now
+    cases true e = alike ((bytes_eq-Decides x.now y.now).0 e) ∙ is_eq-slice_cmp x.now y.now
+    cases false e = unlike (nat_cmp (length x.now) (length y.now)) (slice_cmp nat_cmp x.now y.now) (is_eq-slice_cmp x.now y.now ∙ e) ∙ sym e
+
 -- a name is put into the set
-pub holds-push : (s n : BTreeSet (Bor (List ℕ))) (key : Bor (List ℕ)) (names : List (List ℕ)) → Holds s names → Updates text_order s n key true → Holds n (names ++ key.now ∷ [])
+pub holds-push : (s n : BTreeSet (ℕ × Bor (List ℕ))) (key : Bor (List ℕ)) (names : List (List ℕ)) → Holds s names → Updates key_order s n (keyed key) true → Holds n (names ++ key.now ∷ [])
 holds-push s n key names h u = λ q.
-    u.0 q
-    ∙ ap (λ b. cond b true (contains text_order s q)) (is_eq-slice_cmp key.now q.now)
+    u.0 (keyed q)
+    ∙ ap (λ b. cond b true (contains key_order s (keyed q))) (same-name key q)
     ∙ ap (cond (bytes_eq key.now q.now) true) (h q)
     ∙ any-push q.now key.now names
 

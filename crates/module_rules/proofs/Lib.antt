@@ -1,3 +1,4 @@
+pub mod Decided
 pub mod Found
 pub mod Listed
 pub mod LookedUp

@@ -1,11 +1,12 @@
 //! Constant expressions (WebAssembly core specification, "Validation: Instructions", "Constant Expressions").
 
-ghost use Rattle.std.specs.Prelude.{◌≡◌, ℕ, true, false, take, slice_get, OnOk, OnErr};
-ghost use Rattle.module_rules.specs.Constants.{is_constant_binary, is_constant_numeric, is_constant_reference, is_constant_struct, is_constant_array, is_read, is_constant_operator, is_constant_in, is_immutable, may_name_global, known_globals, expression_type, element_address_type, data_address_type};
+ghost use Rattle.std.specs.Prelude.{◌≡◌, ℕ, true, false, is_ok, take, slice_get, OnOk, OnErr};
+ghost use Rattle.module_rules.specs.Constants.{is_constant_binary, is_constant_numeric, is_constant_reference, is_constant_struct, is_constant_array, is_constant_operator, is_constant_in, is_immutable, may_name_global, known_globals, expression_type, element_address_type, data_address_type};
 ghost use Rattle.module_rules.specs.Declarations.{declarations_of};
 ghost use Rattle.module_rules.specs.declared.module.Place.{Place};
 
 use crate::elements::item_type;
+use crate::faults::Fault;
 use crate::features::ModuleFeatures;
 use crate::items::{DeclaredGlobal, DeclaredMemory, DeclaredTable};
 use crate::module::{DeclaredModule, Place};
@@ -80,68 +81,71 @@ fn is_constant_array(op: ArrayOp) -> bool
     )
 }
 
-/// Whether it reads a global, and no more.
-fn is_read(access: Update) -> bool
-    ensures { result ≡ is_read access }
+/// There is a global at this index, among the first so many, and it can't be written.
+fn check_immutable(globals: &[DeclaredGlobal], count: usize, index: u32) -> Result<(), Fault>
+    ensures { is_ok result ≡ is_immutable (slice_get (take count globals.now) index) }
 {
-    matches!(&access, Update::Value(Exchange::Get))
+    if index as usize >= count {
+        return Err(Fault::UnknownGlobal(index));
+    }
+    match globals.get(index as usize) {
+        Some(global) if !global.ty.mutable => Ok(()),
+        Some(_) => Err(Fault::WrittenGlobal),
+        None => Err(Fault::UnknownGlobal(index)),
+    }
 }
 
-/// Whether a global is one of the first so many that can't be written, and is imported where collected types
-/// are off.
-fn may_name_global(
+/// A global is one of the first so many that can't be written, and is imported where collected types are off.
+fn check_global(
     features: ModuleFeatures,
     declared: &DeclaredModule,
     count: usize,
     index: u32,
-) -> bool
-    ensures { result ≡ may_name_global features (declarations_of declared.now) count index }
+) -> Result<(), Fault>
+    ensures { is_ok result ≡ may_name_global features (declarations_of declared.now) count index }
 {
-    is_immutable(&declared.globals, count, index)
-        && (index < declared.imports.globals || features.gc())
+    check_immutable(&declared.globals, count, index)?;
+    if index >= declared.imports.globals && !features.gc() {
+        return Err(Fault::OwnGlobal);
+    }
+    Ok(())
 }
 
-/// Whether there is a global at this index, among the first so many, and it can't be written.
-fn is_immutable(globals: &[DeclaredGlobal], count: usize, index: u32) -> bool
-    ensures { result ≡ is_immutable (slice_get (take count globals.now) index) }
+/// What doesn't name a global is constant.
+fn check_constant(is_constant: bool) -> Result<(), Fault>
+    ensures { is_ok result ≡ is_constant }
 {
-    if index as usize >= count {
-        return false;
+    if is_constant {
+        return Ok(());
     }
-    match globals.get(index as usize) {
-        Some(global) => !global.ty.mutable,
-        None => false,
-    }
+    Err(Fault::NotConstant)
 }
 
-/// Whether an operator is constant, where the first so many globals may be named.
-pub fn is_constant_operator(
+/// An operator is constant, where the first so many globals may be named.
+fn check_operator(
     features: ModuleFeatures,
     declared: &DeclaredModule,
     count: usize,
     op: Op<'_>,
-) -> bool
-    ensures { result ≡ is_constant_operator features
+) -> Result<(), Fault>
+    ensures { is_ok result ≡ is_constant_operator features
         (may_name_global features (declarations_of declared.now) count) op.entry }
 {
     match op {
-        Op::Control(ControlOp::End) => true,
-        Op::Control(ControlOp::GlobalGet(index)) => may_name_global(
-            features, declared, count, index,
-        ),
-        Op::Numeric(op) => is_constant_numeric(features, op),
-        Op::Reference(op) => is_constant_reference(op),
-        Op::Struct(op) => is_constant_struct(op),
-        Op::Array(op) => is_constant_array(op),
-        Op::Shared(SharedOp::RefI31Shared) => true,
+        Op::Control(ControlOp::GlobalGet(index)) => check_global(features, declared, count, index),
         Op::Shared(
             SharedOp::Global {
-                access,
+                access: Update::Value(Exchange::Get),
                 global_index,
                 ..
             },
-        ) => is_read(access) && may_name_global(features, declared, count, global_index),
-        _ => false,
+        ) => check_global(features, declared, count, global_index),
+        Op::Numeric(op) => check_constant(is_constant_numeric(features, op)),
+        Op::Reference(op) => check_constant(is_constant_reference(op)),
+        Op::Struct(op) => check_constant(is_constant_struct(op)),
+        Op::Array(op) => check_constant(is_constant_array(op)),
+        Op::Control(ControlOp::End) | Op::Shared(SharedOp::RefI31Shared) => Ok(()),
+        _ => Err(Fault::NotConstant),
     }
 }
 
@@ -156,45 +160,6 @@ fn known_globals(declared: &DeclaredModule, place: Place) -> usize
             .globals
             .len(),
     }
-}
-
-/// Why an operator isn't constant.
-fn constant_refusal(
-    alloc: Global,
-    declared: &DeclaredModule,
-    count: usize,
-    op: Op<'_>,
-    offset: u64,
-) -> Error {
-    let (Op::Control(ControlOp::GlobalGet(index))
-    | Op::Shared(
-        SharedOp::Global {
-            global_index: index,
-            ..
-        },
-    )) = op
-    else {
-        return Error::new(
-            "constant expression required: non-constant operator",
-            offset,
-        );
-    };
-    if index as usize >= count {
-        return Error::from_text(
-            format!(in alloc; "unknown global {index}: global index out of bounds"),
-            offset,
-        );
-    }
-    if is_immutable(&declared.globals, count, index) {
-        return Error::new(
-            "constant expression required: global.get of locally defined global",
-            offset,
-        );
-    }
-    Error::new(
-        "constant expression required: global.get of mutable global",
-        offset,
-    )
 }
 
 /// An operator of a constant expression in this place is constant. It refuses at the offset of the operator,
@@ -216,10 +181,10 @@ pub fn check_constant_operator(
         ≡ false) }
 {
     let count = known_globals(declared, place);
-    if is_constant_operator(features, declared, count, op) {
-        return Ok(());
+    match check_operator(features, declared, count, op) {
+        Ok(()) => Ok(()),
+        Err(fault) => Err(fault.at(offset).refusal(alloc)),
     }
-    Err(constant_refusal(alloc, declared, count, op, offset))
 }
 
 /// The type of the addresses at which an element segment begins, if it goes to a table that is there.

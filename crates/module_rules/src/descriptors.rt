@@ -1,11 +1,14 @@
 //! Descriptors, and the types that they describe (a proposal, "Custom Descriptors": type definitions).
 
-ghost use Rattle.std.specs.Prelude.{◌≡◌, ℕ, slice_get};
+ghost use Rattle.std.specs.Prelude.{◌≡◌, ℕ, is_ok, length, slice_get};
 ghost use Rattle.std.specs.List.{list_all, zip};
 ghost use Rattle.validate_types.specs.declared.types.SubType.{SubType};
 ghost use Rattle.validate_types.specs.Kinds.{is_struct};
 ghost use Rattle.module_rules.specs.Descriptors.{names_type, is_descriptor_of, is_described_by, has_valid_descriptor, describes_valid_type, has_valid_descriptors, have_valid_descriptors};
 
+use crate::faults::{Fault, Located};
+use crate::items::RecGroup;
+use crate::types::offset_of_type;
 use validate_resources::order::number;
 use validate_types::{CompositeInnerType, CompositeType, PackedIndex, SubType};
 
@@ -52,58 +55,88 @@ fn is_described_by(types: &[SubType], index: u32, name: u32, shared: bool) -> bo
     }
 }
 
-/// Whether a type that is named by this number has no descriptor, or is of structs and has one that describes
-/// it.
-pub fn has_valid_descriptor(types: &[SubType], name: u32, ty: &CompositeType) -> bool
-    ensures { result ≡ has_valid_descriptor types.now name ty.now ty.now.descriptor_idx }
+/// What has a descriptor, or is one, is a struct.
+fn check_is_struct(inner: &CompositeInnerType) -> Result<(), Fault>
+    ensures { is_ok result ≡ is_struct inner.now }
 {
-    match ty.descriptor_idx {
-        None => true,
-        Some(descriptor) => {
-            is_struct(&ty.inner)
-                && is_descriptor_of(types, number(descriptor.unpack()), name, ty.shared)
+    if is_struct(inner) {
+        return Ok(());
+    }
+    Err(Fault::DescriptorOfNoStruct)
+}
+
+/// A type that is named by this number has no descriptor, or is of structs and has one that describes it.
+fn check_descriptor(types: &[SubType], name: u32, ty: &CompositeType) -> Result<(), Fault>
+    ensures { is_ok result ≡ has_valid_descriptor types.now name ty.now ty.now.descriptor_idx }
+{
+    let Some(descriptor) = ty.descriptor_idx else {
+        return Ok(());
+    };
+    check_is_struct(&ty.inner)?;
+    if !is_descriptor_of(types, number(descriptor.unpack()), name, ty.shared) {
+        return Err(Fault::NoMatchingDescribes);
+    }
+    Ok(())
+}
+
+/// A type that is named by this number describes none, or is of structs and describes an earlier type, of which it is
+/// the descriptor.
+fn check_described(types: &[SubType], name: u32, ty: &CompositeType) -> Result<(), Fault>
+    ensures { is_ok result ≡ describes_valid_type types.now name ty.now ty.now.describes_idx }
+{
+    let Some(described) = ty.describes_idx else {
+        return Ok(());
+    };
+    check_is_struct(&ty.inner)?;
+    let described = number(described.unpack());
+    if described >= name {
+        return Err(Fault::LaterDescribed);
+    }
+    if !is_described_by(types, described, name, ty.shared) {
+        return Err(Fault::NoMatchingDescriptor);
+    }
+    Ok(())
+}
+
+/// The descriptor of a type that is named by this number, and what it describes, are valid.
+fn check_described_type(types: &[SubType], name: u32, ty: &CompositeType) -> Result<(), Fault>
+    ensures { is_ok result ≡ has_valid_descriptors types.now name ty.now }
+{
+    check_descriptor(types, name, ty)?;
+    check_described(types, name, ty)
+}
+
+/// The descriptor of each type, by its name, and what it describes, are valid. A fault is that of the group.
+fn check_each_descriptor(
+    types: &[SubType],
+    groups: &[RecGroup],
+    names: &[u32],
+) -> Result<(), Located>
+    requires { length names.now ≡ length types.now }
+    ensures { is_ok result ≡ list_all (λ (e : SubType × ℕ).
+        has_valid_descriptors types.now e.1 e.0.composite_type) (zip types.now names.now) }
+{
+    for index in 0..types.len() {
+        let checked = check_described_type(types, names[index], &types[index].composite_type);
+        if let Err(fault) = checked {
+            return Err(fault.at(offset_of_type(groups, index)));
         }
     }
+    Ok(())
 }
 
-/// Whether a type that is named by this number describes none, or is of structs and describes an earlier
-/// type, of which it is the descriptor.
-fn describes_valid_type(types: &[SubType], name: u32, ty: &CompositeType) -> bool
-    ensures { result ≡ describes_valid_type types.now name ty.now ty.now.describes_idx }
+/// Each type has a name, and the descriptor of each, and what it describes, are valid. Names that are too few are told of
+/// at this offset.
+pub fn check_descriptors(
+    types: &[SubType],
+    groups: &[RecGroup],
+    names: &[u32],
+    offset: u64,
+) -> Result<(), Located>
+    ensures { is_ok result ≡ have_valid_descriptors types.now names.now }
 {
-    match ty.describes_idx {
-        None => true,
-        Some(described) => {
-            let described = number(described.unpack());
-            is_struct(&ty.inner)
-                && described < name
-                && is_described_by(types, described, name, ty.shared)
-        }
+    if names.len() != types.len() {
+        return Err(Fault::UnnamedTypes.at(offset));
     }
-}
-
-/// Whether the descriptor of a type that is named by this number, and what it describes, are valid.
-pub fn has_valid_descriptors(types: &[SubType], name: u32, ty: &CompositeType) -> bool
-    ensures { result ≡ has_valid_descriptors types.now name ty.now }
-{
-    has_valid_descriptor(types, name, ty) && describes_valid_type(types, name, ty)
-}
-
-/// Whether the descriptor of each type, by its name, and what it describes, are valid.
-fn is_each_descriptor_valid(types: &[SubType], names: &[u32]) -> bool
-    ensures { result ≡ list_all (λ (e : SubType × ℕ). has_valid_descriptors types.now e.1 e.0.composite_type)
-        (zip types.now names.now) }
-{
-    types.iter().zip(names).all(|(ty, name)| has_valid_descriptors(
-        types,
-        *name,
-        &ty.composite_type,
-    ))
-}
-
-/// Whether each type has a name, and the descriptor of each, and what it describes, are valid.
-pub fn have_valid_descriptors(types: &[SubType], names: &[u32]) -> bool
-    ensures { result ≡ have_valid_descriptors types.now names.now }
-{
-    names.len() == types.len() && is_each_descriptor_valid(types, names)
+    check_each_descriptor(types, groups, names)
 }

@@ -1,15 +1,17 @@
 //! Whether the element and data segments of a module are valid (WebAssembly core specification, "Modules":
 //! element segments, data segments).
 
-ghost use Rattle.std.specs.Prelude.{◌≡◌, ℕ, nat_lt, slice_get};
+ghost use Rattle.std.specs.Prelude.{◌≡◌, is_ok, nat_lt, slice_get};
 ghost use Rattle.std.specs.List.{list_all};
+ghost use Rattle.module_rules.specs.Features.{is_on, bulk_memory};
 ghost use Rattle.module_rules.specs.Segments.{item_type, item_count, are_valid_items, takes_elements, is_valid_element_kind, is_valid_element, are_valid_elements, is_valid_data_kind, is_data_count, are_valid_data};
 
+use crate::faults::{Fault, Located, locate};
 use crate::features::ModuleFeatures;
 use crate::items::DeclaredTable;
 use crate::limits::{MAX_WASM_DATA_SEGMENTS, MAX_WASM_ELEMENT_SEGMENTS, MAX_WASM_TABLE_ENTRIES};
 use crate::segments::{Data, DataCount, DataKind, Element, ElementItems, ElementKind};
-use crate::tables::is_valid_element_type;
+use crate::tables::check_element_type;
 use validate_resources::order::is_ref_below;
 use validate_types::{RefType, SubType};
 
@@ -33,154 +35,191 @@ fn item_count(items: &ElementItems) -> usize
     }
 }
 
-/// Whether each index is that of one of so many functions.
-fn are_functions(indices: &[u32], functions: usize) -> bool
-    ensures { result ≡ list_all (λ i. nat_lt i functions) indices.now }
+/// Each index is that of one of so many functions.
+fn check_functions_named(indices: &[u32], functions: usize) -> Result<(), Fault>
+    ensures { is_ok result ≡ list_all (λ i. nat_lt i functions) indices.now }
 {
     for function in indices {
         if *function as usize >= functions {
-            return false;
+            return Err(Fault::UnknownFunction(*function));
         }
     }
-    true
+    Ok(())
 }
 
-/// Whether the functions are there, of which a module has so many, or the type of the expressions is valid.
-fn are_valid_items(
+/// The functions are there, of which a module has so many, or the type of the expressions is valid.
+fn check_items(
     features: ModuleFeatures,
     types: &[SubType],
     functions: usize,
     items: &ElementItems,
-) -> bool
-    ensures { result ≡ are_valid_items features types.now functions items.now }
+) -> Result<(), Fault>
+    ensures { is_ok result ≡ are_valid_items features types.now functions items.now }
 {
     match items {
-        ElementItems::Functions(listed) => are_functions(&listed.indices, functions),
-        ElementItems::Expressions { ty, .. } => is_valid_element_type(features, types, *ty),
+        ElementItems::Functions(listed) => check_functions_named(&listed.indices, functions),
+        ElementItems::Expressions { ty, .. } => check_element_type(features, types, *ty),
     }
 }
 
-/// Whether there is a table at this index, and it may have elements of this type.
-fn takes_elements(types: &[SubType], tables: &[DeclaredTable], ty: RefType, index: u32) -> bool
-    ensures { result ≡ takes_elements types.now ty (slice_get tables.now index) }
+/// There is a table at this index, and it may have elements of this type.
+fn check_table_of(
+    types: &[SubType],
+    tables: &[DeclaredTable],
+    ty: RefType,
+    index: u32,
+) -> Result<(), Fault>
+    ensures { is_ok result ≡ takes_elements types.now ty (slice_get tables.now index) }
 {
-    match tables.get(index as usize) {
-        None => false,
-        Some(table) => is_ref_below(types, ty, table.ty.element_type),
+    let Some(table) = tables.get(index as usize) else {
+        return Err(Fault::UnknownTable(index));
+    };
+    if !is_ref_below(types, ty, table.ty.element_type) {
+        return Err(Fault::ElementMismatch(ty, table.ty.element_type));
     }
+    Ok(())
 }
 
-/// Whether what becomes of a segment is valid, whose items are of this type.
-fn is_valid_element_kind(
+/// What becomes of a segment is valid, whose items are of this type.
+fn check_element_kind(
     features: ModuleFeatures,
     types: &[SubType],
     tables: &[DeclaredTable],
     ty: RefType,
     kind: ElementKind,
-) -> bool
-    ensures { result ≡ is_valid_element_kind features types.now tables.now ty kind }
+) -> Result<(), Fault>
+    ensures { is_ok result ≡ is_valid_element_kind features types.now tables.now ty kind }
 {
     match kind {
-        ElementKind::Passive | ElementKind::Declared => features.bulk_memory(),
-        ElementKind::Active { table_index } => takes_elements(types, tables, ty, table_index),
+        ElementKind::Active { table_index } => check_table_of(types, tables, ty, table_index),
+        ElementKind::Passive | ElementKind::Declared => check_bulk_memory(features),
     }
 }
 
-/// Whether an element segment is valid.
-pub fn is_valid_element(
+/// The proposal of segments that operators name is on.
+fn check_bulk_memory(features: ModuleFeatures) -> Result<(), Fault>
+    ensures { is_ok result ≡ is_on features bulk_memory }
+{
+    if features.bulk_memory() {
+        return Ok(());
+    }
+    Err(Fault::BulkMemoryOff)
+}
+
+/// An element segment is valid.
+#[tactic(auto, using(crate::proofs::Decided::and_false))]
+fn check_element(
     features: ModuleFeatures,
     types: &[SubType],
     functions: usize,
     tables: &[DeclaredTable],
     element: &Element,
-) -> bool
-    ensures { result ≡ is_valid_element features types.now functions tables.now element.now }
+) -> Result<(), Fault>
+    ensures { is_ok result ≡ is_valid_element features types.now functions tables.now element.now }
 {
-    are_valid_items(features, types, functions, &element.items)
-        && is_valid_element_kind(
-            features,
-            types,
-            tables,
-            item_type(&element.items),
-            element.kind,
-        )
-        && item_count(&element.items) as u64 <= MAX_WASM_TABLE_ENTRIES
+    check_items(features, types, functions, &element.items)?;
+    let ty = item_type(&element.items);
+    check_element_kind(features, types, tables, ty, element.kind)?;
+    if item_count(&element.items) as u64 > MAX_WASM_TABLE_ENTRIES {
+        return Err(Fault::TooManyElements);
+    }
+    Ok(())
 }
 
-/// Whether each element segment is valid.
-fn is_each_element_valid(
+/// Each element segment is valid.
+fn check_each_element(
     features: ModuleFeatures,
     types: &[SubType],
     functions: usize,
     tables: &[DeclaredTable],
     elements: &[Element],
-) -> bool
-    ensures { result ≡ list_all (is_valid_element features types.now functions tables.now) elements.now }
+) -> Result<(), Located>
+    ensures { is_ok result ≡ list_all (is_valid_element features types.now functions tables.now)
+        elements.now }
 {
     for element in elements {
-        if !is_valid_element(features, types, functions, tables, element) {
-            return false;
-        }
+        let checked = check_element(features, types, functions, tables, element);
+        locate(checked, element.offset)?;
     }
-    true
+    Ok(())
 }
 
-/// Whether the element segments are valid.
-pub fn are_valid_elements(
+/// The element segments are valid.
+pub fn check_elements(
     features: ModuleFeatures,
     types: &[SubType],
     functions: usize,
     tables: &[DeclaredTable],
     elements: &[Element],
-) -> bool
-    ensures { result ≡ are_valid_elements features types.now functions tables.now elements.now }
+) -> Result<(), Located>
+    ensures { is_ok result ≡ are_valid_elements features types.now functions tables.now elements.now }
 {
-    elements.len() <= MAX_WASM_ELEMENT_SEGMENTS
-        && is_each_element_valid(features, types, functions, tables, elements)
+    if let Some(element) = elements.get(MAX_WASM_ELEMENT_SEGMENTS) {
+        let fault = Fault::too_many("element segments", MAX_WASM_ELEMENT_SEGMENTS);
+        return Err(fault.at(element.offset));
+    }
+    check_each_element(features, types, functions, tables, elements)
 }
 
-/// Whether what becomes of a data segment is valid, in a module of so many memories.
-pub fn is_valid_data_kind(features: ModuleFeatures, memories: usize, kind: DataKind) -> bool
-    ensures { result ≡ is_valid_data_kind features memories kind }
+/// What becomes of a data segment is valid, in a module of so many memories.
+fn check_data_kind(features: ModuleFeatures, memories: usize, kind: DataKind) -> Result<(), Fault>
+    ensures { is_ok result ≡ is_valid_data_kind features memories kind }
 {
     match kind {
-        DataKind::Passive => features.bulk_memory(),
-        DataKind::Active { memory_index } => (memory_index as usize) < memories,
+        DataKind::Passive => check_bulk_memory(features),
+        DataKind::Active { memory_index } => check_memory_index(memory_index, memories),
     }
 }
 
-/// Whether the module doesn't say how many data segments there are, or there are so many.
-pub fn is_data_count(segments: usize, count: Option<DataCount>) -> bool
-    ensures { result ≡ is_data_count segments count }
+/// The index is that of one of so many memories.
+fn check_memory_index(index: u32, memories: usize) -> Result<(), Fault>
+    ensures { is_ok result ≡ nat_lt index memories }
+{
+    if (index as usize) < memories {
+        return Ok(());
+    }
+    Err(Fault::UnknownMemory(index))
+}
+
+/// The module doesn't say how many data segments there are, or there are so many.
+fn check_data_count(segments: usize, count: Option<DataCount>) -> Result<(), Located>
+    ensures { is_ok result ≡ is_data_count segments count }
 {
     match count {
-        None => true,
-        Some(said) => said.count as usize == segments,
+        Some(said) if said.count as usize != segments => Err(Fault::DataCount.at(said.offset)),
+        _ => Ok(()),
     }
 }
 
-/// Whether what becomes of each data segment is valid, in a module of so many memories.
-fn is_each_data_kind_valid(features: ModuleFeatures, memories: usize, segments: &[Data]) -> bool
-    ensures { result ≡ list_all (λ (s : Data). is_valid_data_kind features memories s.kind) segments.now }
+/// What becomes of each data segment is valid, in a module of so many memories.
+fn check_each_data_kind(
+    features: ModuleFeatures,
+    memories: usize,
+    segments: &[Data],
+) -> Result<(), Located>
+    ensures { is_ok result ≡ list_all (λ (s : Data). is_valid_data_kind features memories s.kind)
+        segments.now }
 {
     for segment in segments {
-        if !is_valid_data_kind(features, memories, segment.kind) {
-            return false;
-        }
+        let checked = check_data_kind(features, memories, segment.kind);
+        locate(checked, segment.offset)?;
     }
-    true
+    Ok(())
 }
 
-/// Whether the data segments are valid, in a module of so many memories.
-pub fn are_valid_data(
+/// The data segments are valid, in a module of so many memories.
+pub fn check_data(
     features: ModuleFeatures,
     memories: usize,
     count: Option<DataCount>,
     segments: &[Data],
-) -> bool
-    ensures { result ≡ are_valid_data features memories count segments.now }
+) -> Result<(), Located>
+    ensures { is_ok result ≡ are_valid_data features memories count segments.now }
 {
-    segments.len() <= MAX_WASM_DATA_SEGMENTS
-        && is_data_count(segments.len(), count)
-        && is_each_data_kind_valid(features, memories, segments)
+    if let Some(segment) = segments.get(MAX_WASM_DATA_SEGMENTS) {
+        let fault = Fault::too_many("data segments", MAX_WASM_DATA_SEGMENTS);
+        return Err(fault.at(segment.offset));
+    }
+    check_data_count(segments.len(), count)?;
+    check_each_data_kind(features, memories, segments)
 }

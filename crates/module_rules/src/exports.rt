@@ -1,16 +1,18 @@
 //! Whether the exports of a module are valid (WebAssembly core specification, "Modules": exports).
 
-ghost use Rattle.std.specs.Prelude.{◌≡◌, slice_get};
+ghost use Rattle.std.specs.Prelude.{◌≡◌, ◌&&◌, is_ok, length, nat_le, slice_get};
 ghost use Rattle.std.specs.List.{list_all};
 ghost use Rattle.module_rules.specs.Declarations.{declarations_of};
 ghost use Rattle.module_rules.specs.Exports.{item_count, is_read_only, is_export_enabled, is_valid_export};
 
+use crate::faults::{Fault, Located, locate};
 use crate::features::ModuleFeatures;
 use crate::items::{DeclaredGlobal, Export, ExternalKind};
+use crate::limits::MAX_WASM_EXPORTS;
 use crate::module::DeclaredModule;
 
 /// So many items of a kind are there.
-pub fn item_count(declared: &DeclaredModule, kind: ExternalKind) -> usize
+fn item_count(declared: &DeclaredModule, kind: ExternalKind) -> usize
     ensures { result ≡ item_count (declarations_of declared.now) kind }
 {
     match kind {
@@ -47,34 +49,45 @@ fn is_export_enabled(
     }
 }
 
-/// Whether an export is valid, as far as it has no other's name.
-pub fn is_valid_export(features: ModuleFeatures, declared: &DeclaredModule, export: &Export) -> bool
-    ensures { result ≡ is_valid_export features (declarations_of declared.now) export.now }
+/// An export is valid, as far as it has no other's name.
+fn check_export(
+    features: ModuleFeatures,
+    declared: &DeclaredModule,
+    export: &Export,
+) -> Result<(), Fault>
+    ensures { is_ok result ≡ is_valid_export features (declarations_of declared.now) export.now }
 {
-    (export.index as usize) < item_count(declared, export.kind)
-        && is_export_enabled(features, &declared.globals, export.kind, export.index)
+    if export.index as usize >= item_count(declared, export.kind) {
+        return Err(Fault::UnknownExport(export.kind, export.index));
+    }
+    if !is_export_enabled(features, &declared.globals, export.kind, export.index) {
+        return Err(Fault::WrittenGlobalsOff);
+    }
+    Ok(())
 }
 
-/// Whether each of these exports is valid, as far as it has no other's name.
-fn are_all_valid_exports(
+/// Each of these exports is valid, as far as it has no other's name.
+fn check_each_export(
     features: ModuleFeatures,
     declared: &DeclaredModule,
     exports: &[Export],
-) -> bool
-    ensures { result ≡ list_all (is_valid_export features (declarations_of declared.now)) exports.now }
+) -> Result<(), Located>
+    ensures { is_ok result ≡ list_all (is_valid_export features (declarations_of declared.now)) exports.now }
 {
     for export in exports {
-        if !is_valid_export(features, declared, export) {
-            return false;
-        }
+        locate(check_export(features, declared, export), export.offset)?;
     }
-    true
+    Ok(())
 }
 
-/// Whether each export is valid, as far as it has no other's name.
-pub fn is_each_export_valid(features: ModuleFeatures, declared: &DeclaredModule) -> bool
-    ensures { result ≡ list_all (is_valid_export features (declarations_of declared.now))
-        (declarations_of declared.now).exports }
+/// The exports are valid, as far as none has another's name.
+pub fn check_exports(features: ModuleFeatures, declared: &DeclaredModule) -> Result<(), Located>
+    ensures { is_ok result ≡ (nat_le (length (declarations_of declared.now).exports) MAX_WASM_EXPORTS
+        && list_all (is_valid_export features (declarations_of declared.now))
+        (declarations_of declared.now).exports) }
 {
-    are_all_valid_exports(features, declared, &declared.exports)
+    if let Some(export) = declared.exports.get(MAX_WASM_EXPORTS) {
+        return Err(Fault::too_many("exports", MAX_WASM_EXPORTS).at(export.offset));
+    }
+    check_each_export(features, declared, &declared.exports)
 }

@@ -1,13 +1,15 @@
 //! Whether the functions and tags of a module, and its start function, are valid (WebAssembly core
 //! specification, "Modules": functions, tags, start function; "Tag Types").
 
-ghost use Rattle.std.specs.Prelude.{◌≡◌, ℕ, slice_get};
+ghost use Rattle.std.specs.Prelude.{◌≡◌, ℕ, Some, is_ok, slice_get};
 ghost use Rattle.std.specs.List.{list_all, enumerate_from};
 ghost use Rattle.std.specs.Option.{option_copied};
-ghost use Rattle.module_rules.specs.Functions.{signature_at, is_valid_function, are_valid_functions, is_valid_tag, are_valid_tags, may_start};
+ghost use Rattle.validate_resources.specs.Lists.{is_func_type};
+ghost use Rattle.module_rules.specs.Functions.{signature_at, is_valid_function, are_valid_functions, is_tag_signature, is_valid_tag, are_valid_tags, is_start_signature, may_start, is_valid_start};
 
+use crate::faults::{Fault, Located, locate};
 use crate::features::ModuleFeatures;
-use crate::items::{DeclaredFunction, DeclaredTag};
+use crate::items::{DeclaredFunction, DeclaredTag, Start};
 use crate::limits::{MAX_WASM_FUNCTIONS, MAX_WASM_TAGS};
 use validate_resources::kinds::{func_type_of, is_func_type};
 use validate_types::{FuncType, SubType};
@@ -19,90 +21,165 @@ fn func_type_at(types: &[SubType], index: u32) -> Option<&FuncType>
     func_type_of(types.get(index as usize)?)
 }
 
-/// Whether the function at this index is valid, where so many are imported.
-pub fn is_valid_function(
+/// Why the type at this index isn't one of functions.
+fn no_func_type(types: &[SubType], index: u32) -> Fault {
+    if index as usize >= types.len() {
+        return Fault::UnknownType(index);
+    }
+    Fault::NoFuncType(index)
+}
+
+/// The type at this index is one of functions.
+fn check_func_type(types: &[SubType], index: u32) -> Result<(), Fault>
+    ensures { is_ok result ≡ is_func_type (slice_get types.now index) }
+{
+    if is_func_type(types, index) {
+        return Ok(());
+    }
+    Err(no_func_type(types, index))
+}
+
+/// The function at this index is valid, where so many are imported.
+fn check_function(
     features: ModuleFeatures,
     types: &[SubType],
     imported: u32,
     index: usize,
     function: &DeclaredFunction,
-) -> bool
-    ensures { result ≡ is_valid_function features types.now imported index function.now }
+) -> Result<(), Fault>
+    ensures { is_ok result ≡ is_valid_function features types.now imported index function.now }
 {
-    is_func_type(types, function.type_index)
-        && (!(index < imported as usize && function.exact) || features.custom_descriptors())
+    check_func_type(types, function.type_index)?;
+    if index < imported as usize && function.exact && !features.custom_descriptors() {
+        return Err(Fault::ExactImportsOff);
+    }
+    Ok(())
 }
 
-/// Whether each function is valid.
-fn is_each_function_valid(
+/// Each function is valid.
+fn check_each_function(
     features: ModuleFeatures,
     types: &[SubType],
     imported: u32,
     functions: &[DeclaredFunction],
-) -> bool
-    ensures { result ≡ list_all (λ (e : ℕ × DeclaredFunction).
+) -> Result<(), Located>
+    ensures { is_ok result ≡ list_all (λ (e : ℕ × DeclaredFunction).
         is_valid_function features types.now imported e.0 e.1) (enumerate_from 0 functions.now) }
 {
     for index in 0..functions.len() {
-        if !is_valid_function(features, types, imported, index, &functions[index]) {
-            return false;
-        }
+        let function = &functions[index];
+        let checked = check_function(features, types, imported, index, function);
+        locate(checked, function.offset)?;
     }
-    true
+    Ok(())
 }
 
-/// Whether the functions are valid.
-pub fn are_valid_functions(
+/// The functions are valid.
+pub fn check_functions(
     features: ModuleFeatures,
     types: &[SubType],
     imported: u32,
     functions: &[DeclaredFunction],
-) -> bool
-    ensures { result ≡ are_valid_functions features types.now imported functions.now }
+) -> Result<(), Located>
+    ensures { is_ok result ≡ are_valid_functions features types.now imported functions.now }
 {
-    functions.len() <= MAX_WASM_FUNCTIONS
-        && is_each_function_valid(features, types, imported, functions)
+    if let Some(function) = functions.get(MAX_WASM_FUNCTIONS) {
+        return Err(Fault::too_many("functions", MAX_WASM_FUNCTIONS).at(function.offset));
+    }
+    check_each_function(features, types, imported, functions)
 }
 
-/// Whether a tag is valid.
-pub fn is_valid_tag(features: ModuleFeatures, types: &[SubType], tag: &DeclaredTag) -> bool
-    ensures { result ≡ is_valid_tag features types.now tag.now }
+/// The function type of a tag gives nothing, unless continuations can give it back.
+fn check_tag_type(features: ModuleFeatures, ty: &FuncType) -> Result<(), Fault>
+    ensures { is_ok result ≡ is_tag_signature features (Some ty.now) }
 {
-    features.exceptions()
-        && match func_type_at(types, tag.func_type_idx) {
-            Some(ty) => ty.results().is_empty() || features.stack_switching(),
-            None => false,
-        }
+    if ty.results().is_empty() || features.stack_switching() {
+        return Ok(());
+    }
+    Err(Fault::TagWithResults)
 }
 
-/// Whether each tag is valid.
-fn is_each_tag_valid(features: ModuleFeatures, types: &[SubType], tags: &[DeclaredTag]) -> bool
-    ensures { result ≡ list_all (is_valid_tag features types.now) tags.now }
+/// A tag is valid.
+fn check_tag(features: ModuleFeatures, types: &[SubType], tag: &DeclaredTag) -> Result<(), Fault>
+    ensures { is_ok result ≡ is_valid_tag features types.now tag.now }
+{
+    if !features.exceptions() {
+        return Err(Fault::ExceptionsOff);
+    }
+    match func_type_at(types, tag.func_type_idx) {
+        Some(ty) => check_tag_type(features, ty),
+        None => Err(no_func_type(types, tag.func_type_idx)),
+    }
+}
+
+/// Each tag is valid.
+fn check_each_tag(
+    features: ModuleFeatures,
+    types: &[SubType],
+    tags: &[DeclaredTag],
+) -> Result<(), Located>
+    ensures { is_ok result ≡ list_all (is_valid_tag features types.now) tags.now }
 {
     for tag in tags {
-        if !is_valid_tag(features, types, tag) {
-            return false;
-        }
+        locate(check_tag(features, types, tag), tag.offset)?;
     }
-    true
+    Ok(())
 }
 
-/// Whether the tags are valid.
-pub fn are_valid_tags(features: ModuleFeatures, types: &[SubType], tags: &[DeclaredTag]) -> bool
-    ensures { result ≡ are_valid_tags features types.now tags.now }
+/// The tags are valid.
+pub fn check_tags(
+    features: ModuleFeatures,
+    types: &[SubType],
+    tags: &[DeclaredTag],
+) -> Result<(), Located>
+    ensures { is_ok result ≡ are_valid_tags features types.now tags.now }
 {
-    tags.len() <= MAX_WASM_TAGS && is_each_tag_valid(features, types, tags)
+    if let Some(tag) = tags.get(MAX_WASM_TAGS) {
+        return Err(Fault::too_many("tags", MAX_WASM_TAGS).at(tag.offset));
+    }
+    check_each_tag(features, types, tags)
 }
 
-/// Whether a function is there, and takes and gives nothing.
-pub fn may_start(types: &[SubType], functions: &[DeclaredFunction], function: u32) -> bool
-    ensures { result ≡ may_start types.now (slice_get functions.now function) }
+/// Whether the type at this index is one of functions that take and give nothing.
+fn takes_nothing(types: &[SubType], index: u32) -> bool
+    ensures { result ≡ is_start_signature (signature_at types.now index) }
 {
-    match functions.get(function as usize) {
+    match func_type_at(types, index) {
+        Some(ty) => ty.params().is_empty() && ty.results().is_empty(),
         None => false,
-        Some(function) => match func_type_at(types, function.type_index) {
-            Some(ty) => ty.params().is_empty() && ty.results().is_empty(),
-            None => false,
-        },
+    }
+}
+
+/// A function is there, and takes and gives nothing.
+fn check_start_function(
+    types: &[SubType],
+    functions: &[DeclaredFunction],
+    index: u32,
+) -> Result<(), Fault>
+    ensures { is_ok result ≡ may_start types.now (slice_get functions.now index) }
+{
+    let Some(function) = functions.get(index as usize) else {
+        return Err(Fault::UnknownFunction(index));
+    };
+    if takes_nothing(types, function.type_index) {
+        return Ok(());
+    }
+    Err(Fault::StartType)
+}
+
+/// The start function is valid, if there is one.
+pub fn check_start(
+    types: &[SubType],
+    functions: &[DeclaredFunction],
+    start: Option<Start>,
+) -> Result<(), Located>
+    ensures { is_ok result ≡ is_valid_start types.now functions.now start }
+{
+    match start {
+        None => Ok(()),
+        Some(start) => {
+            let checked = check_start_function(types, functions, start.function);
+            locate(checked, start.offset)
+        }
     }
 }

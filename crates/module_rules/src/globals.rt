@@ -1,78 +1,110 @@
 //! Whether the globals of a module are valid (WebAssembly core specification, "Global Types", and "Modules":
 //! globals, imports).
 
-ghost use Rattle.std.specs.Prelude.{◌≡◌, ℕ};
+ghost use Rattle.std.specs.Prelude.{◌≡◌, ◌&&◌, ◌||◌, ℕ, is_ok, not};
 ghost use Rattle.std.specs.List.{list_all, enumerate_from};
-ghost use Rattle.module_rules.specs.Globals.{is_valid_value_type, is_valid_global_type, is_valid_global, are_valid_globals};
+ghost use Rattle.validate_types.specs.Features.{is_type_enabled};
+ghost use Rattle.module_rules.specs.Features.{is_on, operator_features, shared_everything_threads};
+ghost use Rattle.module_rules.specs.Globals.{is_valid_value_type, is_valid_global, are_valid_globals};
+ghost use Rattle.module_rules.specs.Types.{is_type_shared};
 
+use crate::faults::{Fault, Located, locate};
 use crate::features::ModuleFeatures;
-use crate::indices::has_known_index;
+use crate::indices::known_in_type;
 use crate::items::DeclaredGlobal;
 use crate::limits::MAX_WASM_GLOBALS;
 use crate::types::is_type_shared;
 use validate_types::{SubType, ValType};
 
-/// Whether a value type's proposal is on, and the type that it names is there.
-fn is_valid_value_type(features: ModuleFeatures, types: &[SubType], ty: ValType) -> bool
-    ensures { result ≡ is_valid_value_type features types.now ty }
+/// The proposal of a value type is on.
+pub fn check_type_on(features: ModuleFeatures, ty: ValType) -> Result<(), Fault>
+    ensures { is_ok result ≡ is_type_enabled (operator_features features) ty }
 {
-    features.operator_features().check_value_type(ty).is_ok() && has_known_index(ty, types.len())
+    match features.operator_features().check_value_type(ty) {
+        Ok(()) => Ok(()),
+        Err(text) => Err(Fault::TypeOff(text)),
+    }
 }
 
-/// Whether the type of a global is valid.
-fn is_valid_global_type(
+/// A value type's proposal is on, and the type that it names is there.
+fn check_value_type(features: ModuleFeatures, types: &[SubType], ty: ValType) -> Result<(), Fault>
+    ensures { is_ok result ≡ is_valid_value_type features types.now ty }
+{
+    check_type_on(features, ty)?;
+    match known_in_type(ty, types.len()) {
+        Ok(()) => Ok(()),
+        Err(index) => Err(Fault::UnknownType(index)),
+    }
+}
+
+/// The proposal of a shared global is on, and it holds what is shared.
+fn check_shared(
     features: ModuleFeatures,
     types: &[SubType],
     global: &DeclaredGlobal,
-) -> bool
-    ensures { result ≡ is_valid_global_type features types.now global.now }
+) -> Result<(), Fault>
+    ensures { is_ok result ≡ (not global.now.ty.shared || is_on features shared_everything_threads
+        && is_type_shared types.now global.now.ty.content_type) }
 {
-    is_valid_value_type(features, types, global.ty.content_type)
-        && (!global.ty.shared
-            || features.shared_everything_threads()
-                && is_type_shared(types, global.ty.content_type))
+    if !global.ty.shared {
+        return Ok(());
+    }
+    if !features.shared_everything_threads() {
+        return Err(Fault::SharedGlobalsOff);
+    }
+    if !is_type_shared(types, global.ty.content_type) {
+        return Err(Fault::UnsharedValue);
+    }
+    Ok(())
 }
 
-/// Whether the global at this index is valid, where so many are imported.
-pub fn is_valid_global(
+/// The global at this index is valid, where so many are imported.
+#[tactic(auto, using(crate::proofs::Decided::and_false, crate::proofs::Decided::and_true))]
+fn check_global(
     features: ModuleFeatures,
     types: &[SubType],
     imported: u32,
     index: usize,
     global: &DeclaredGlobal,
-) -> bool
-    ensures { result ≡ is_valid_global features types.now imported index global.now }
+) -> Result<(), Fault>
+    ensures { is_ok result ≡ is_valid_global features types.now imported index global.now }
 {
-    is_valid_global_type(features, types, global)
-        && (!global.ty.mutable || index >= imported as usize || features.mutable_global())
+    check_value_type(features, types, global.ty.content_type)?;
+    if global.ty.mutable && index < imported as usize && !features.mutable_global() {
+        return Err(Fault::WrittenGlobalsOff);
+    }
+    check_shared(features, types, global)
 }
 
-/// Whether each global is valid.
-fn is_each_global_valid(
+/// Each global is valid.
+fn check_each_global(
     features: ModuleFeatures,
     types: &[SubType],
     imported: u32,
     globals: &[DeclaredGlobal],
-) -> bool
-    ensures { result ≡ list_all (λ (e : ℕ × DeclaredGlobal).
+) -> Result<(), Located>
+    ensures { is_ok result ≡ list_all (λ (e : ℕ × DeclaredGlobal).
         is_valid_global features types.now imported e.0 e.1) (enumerate_from 0 globals.now) }
 {
     for index in 0..globals.len() {
-        if !is_valid_global(features, types, imported, index, &globals[index]) {
-            return false;
-        }
+        let global = &globals[index];
+        let checked = check_global(features, types, imported, index, global);
+        locate(checked, global.offset)?;
     }
-    true
+    Ok(())
 }
 
-/// Whether the globals are valid.
-pub fn are_valid_globals(
+/// The globals are valid.
+pub fn check_globals(
     features: ModuleFeatures,
     types: &[SubType],
     imported: u32,
     globals: &[DeclaredGlobal],
-) -> bool
-    ensures { result ≡ are_valid_globals features types.now imported globals.now }
+) -> Result<(), Located>
+    ensures { is_ok result ≡ are_valid_globals features types.now imported globals.now }
 {
-    globals.len() <= MAX_WASM_GLOBALS && is_each_global_valid(features, types, imported, globals)
+    if let Some(global) = globals.get(MAX_WASM_GLOBALS) {
+        return Err(Fault::too_many("globals", MAX_WASM_GLOBALS).at(global.offset));
+    }
+    check_each_global(features, types, imported, globals)
 }

@@ -1,7 +1,7 @@
 //! Whether the indices in a type are those of types that are there (WebAssembly core specification,
-//! "Validation: Types").
+//! "Validation: Types"). Each check refuses by the first that isn't.
 
-ghost use Rattle.std.specs.Prelude.{◌≡◌};
+ghost use Rattle.std.specs.Prelude.{◌≡◌, is_ok};
 ghost use Rattle.std.specs.List.{list_all};
 ghost use Rattle.validate_resources.specs.Indices.{is_known, heap_indices_pass, ref_indices_pass, type_indices_pass, option_index_passes, signature_indices_pass, field_indices_pass, inner_indices_pass, composite_indices_pass, sub_indices_pass};
 
@@ -11,116 +11,126 @@ use validate_types::{
     StorageType, SubType, UnpackedIndex, ValType,
 };
 
-/// Whether it names one of so many types.
-fn is_known(index: UnpackedIndex, count: usize) -> bool
-    ensures { result ≡ is_known count index }
+/// It names one of so many types.
+fn known(index: UnpackedIndex, count: usize) -> Result<(), u32>
+    ensures { is_ok result ≡ is_known count index }
 {
-    (number(index) as usize) < count
+    if (number(index) as usize) < count {
+        return Ok(());
+    }
+    Err(number(index))
 }
 
-/// Whether a heap type names one of so many types, or none.
-fn has_known_heap_index(ty: HeapType, count: usize) -> bool
-    ensures { result ≡ heap_indices_pass (is_known count) ty }
+/// A heap type names one of so many types, or none.
+fn known_in_heap(ty: HeapType, count: usize) -> Result<(), u32>
+    ensures { is_ok result ≡ heap_indices_pass (is_known count) ty }
 {
     match ty {
-        HeapType::Abstract { .. } => true,
-        HeapType::Concrete(index) | HeapType::Exact(index) => is_known(index, count),
+        HeapType::Abstract { .. } => Ok(()),
+        HeapType::Concrete(index) | HeapType::Exact(index) => known(index, count),
     }
 }
 
-/// Whether a reference type names one of so many types, or none.
-pub fn has_known_ref_index(ty: RefType, count: usize) -> bool
-    ensures { result ≡ ref_indices_pass (is_known count) ty }
+/// A reference type names one of so many types, or none.
+pub fn known_in_ref(ty: RefType, count: usize) -> Result<(), u32>
+    ensures { is_ok result ≡ ref_indices_pass (is_known count) ty }
 {
-    has_known_heap_index(ty.heap_type(), count)
+    known_in_heap(ty.heap_type(), count)
 }
 
-/// Whether a value type names one of so many types, or none.
-pub fn has_known_index(ty: ValType, count: usize) -> bool
-    ensures { result ≡ type_indices_pass (is_known count) ty }
+/// A value type names one of so many types, or none.
+pub fn known_in_type(ty: ValType, count: usize) -> Result<(), u32>
+    ensures { is_ok result ≡ type_indices_pass (is_known count) ty }
 {
     match ty {
-        ValType::Ref(ty) => has_known_ref_index(ty, count),
-        _ => true,
+        ValType::Ref(ty) => known_in_ref(ty, count),
+        _ => Ok(()),
     }
 }
 
-/// Whether it names one of so many types, or there is none.
-fn is_option_known(index: Option<PackedIndex>, count: usize) -> bool
-    ensures { result ≡ option_index_passes (is_known count) index }
+/// It names one of so many types, or there is none.
+fn known_option(index: Option<PackedIndex>, count: usize) -> Result<(), u32>
+    ensures { is_ok result ≡ option_index_passes (is_known count) index }
 {
     match index {
-        Some(index) => is_known(index.unpack(), count),
-        None => true,
+        Some(index) => known(index.unpack(), count),
+        None => Ok(()),
     }
 }
 
-/// Whether each value type names one of so many types, or none.
-fn have_known_indices(types: &[ValType], count: usize) -> bool
-    ensures { result ≡ list_all (type_indices_pass (is_known count)) types.now }
+/// Each value type names one of so many types, or none.
+fn known_in_types(types: &[ValType], count: usize) -> Result<(), u32>
+    ensures { is_ok result ≡ list_all (type_indices_pass (is_known count)) types.now }
 {
     for ty in types {
-        if !has_known_index(*ty, count) {
-            return false;
-        }
+        known_in_type(*ty, count)?;
     }
-    true
+    Ok(())
 }
 
 /// The same of what a function takes and gives.
-fn has_known_func_indices(ty: &FuncType, count: usize) -> bool
-    ensures { result ≡ signature_indices_pass (is_known count) ty.now }
+fn known_in_func(ty: &FuncType, count: usize) -> Result<(), u32>
+    ensures { is_ok result ≡ signature_indices_pass (is_known count) ty.now }
 {
-    have_known_indices(ty.params(), count) && have_known_indices(ty.results(), count)
+    known_in_types(ty.params(), count)?;
+    known_in_types(ty.results(), count)
 }
 
 /// The same of what a field holds.
-fn has_known_field_index(field: FieldType, count: usize) -> bool
-    ensures { result ≡ field_indices_pass (is_known count) field }
+fn known_in_field(field: FieldType, count: usize) -> Result<(), u32>
+    ensures { is_ok result ≡ field_indices_pass (is_known count) field }
 {
     match field.element_type {
-        StorageType::Val(ty) => has_known_index(ty, count),
-        StorageType::I8 | StorageType::I16 => true,
+        StorageType::Val(ty) => known_in_type(ty, count),
+        StorageType::I8 | StorageType::I16 => Ok(()),
     }
 }
 
 /// The same of each field.
-fn have_known_field_indices(fields: &[FieldType], count: usize) -> bool
-    ensures { result ≡ list_all (field_indices_pass (is_known count)) fields.now }
+fn known_in_fields(fields: &[FieldType], count: usize) -> Result<(), u32>
+    ensures { is_ok result ≡ list_all (field_indices_pass (is_known count)) fields.now }
 {
     for field in fields {
-        if !has_known_field_index(*field, count) {
-            return false;
-        }
+        known_in_field(*field, count)?;
     }
-    true
+    Ok(())
 }
 
 /// The same of what a type is made of.
-fn has_known_inner_indices(inner: &CompositeInnerType, count: usize) -> bool
-    ensures { result ≡ inner_indices_pass (is_known count) inner.now }
+fn known_in_inner(inner: &CompositeInnerType, count: usize) -> Result<(), u32>
+    ensures { is_ok result ≡ inner_indices_pass (is_known count) inner.now }
 {
     match inner {
-        CompositeInnerType::Func(ty) => has_known_func_indices(ty, count),
-        CompositeInnerType::Array(ty) => has_known_field_index(ty.0, count),
-        CompositeInnerType::Struct(ty) => have_known_field_indices(&ty.fields, count),
-        CompositeInnerType::Cont(ty) => is_known(ty.0.unpack(), count),
+        CompositeInnerType::Func(ty) => known_in_func(ty, count),
+        CompositeInnerType::Array(ty) => known_in_field(ty.0, count),
+        CompositeInnerType::Struct(ty) => known_in_fields(&ty.fields, count),
+        CompositeInnerType::Cont(ty) => known(ty.0.unpack(), count),
     }
 }
 
 /// The same of a composite type, its descriptor and what it describes.
-fn has_known_composite_indices(ty: &CompositeType, count: usize) -> bool
-    ensures { result ≡ composite_indices_pass (is_known count) ty.now }
+fn known_in_composite(ty: &CompositeType, count: usize) -> Result<(), u32>
+    ensures { is_ok result ≡ composite_indices_pass (is_known count) ty.now }
 {
-    has_known_inner_indices(&ty.inner, count)
-        && is_option_known(ty.descriptor_idx, count)
-        && is_option_known(ty.describes_idx, count)
+    known_in_inner(&ty.inner, count)?;
+    known_option(ty.descriptor_idx, count)?;
+    known_option(ty.describes_idx, count)
 }
 
 /// The same of a type, its supertype among them.
-pub fn has_known_indices(ty: &SubType, count: usize) -> bool
-    ensures { result ≡ sub_indices_pass (is_known count) ty.now }
+fn known_in_sub_type(ty: &SubType, count: usize) -> Result<(), u32>
+    ensures { is_ok result ≡ sub_indices_pass (is_known count) ty.now }
 {
-    is_option_known(ty.supertype_idx, count)
-        && has_known_composite_indices(&ty.composite_type, count)
+    known_option(ty.supertype_idx, count)?;
+    known_in_composite(&ty.composite_type, count)
+}
+
+/// The same of each type.
+pub fn known_in_sub_types(types: &[SubType], count: usize) -> Result<(), u32>
+    ensures { is_ok result ≡ list_all (sub_indices_pass (is_known count)) types.now }
+{
+    for ty in types {
+        known_in_sub_type(ty, count)?;
+    }
+    Ok(())
 }

@@ -3,14 +3,13 @@
 ghost use Rattle.std.specs.Prelude.{◌≡◌, ◌<◌, ◌||◌, ◌==◌, ℕ, Bool, List, [], ◌∷◌, false, length, map, option_map, slice_index_or, IfOk};
 ghost use Rattle.std.specs.Iterator.{Drains, IsFinite};
 ghost use Rattle.std.specs.List.{enumerate_from, flat_map, zip};
-ghost use Rattle.validate_resources.specs.Named.{declared_in};
+ghost use Rattle.validate_resources.specs.Named.{declared_with};
 ghost use Rattle.module_rules.specs.Declarations.{declarations_of};
 ghost use Rattle.module_rules.specs.Exported.{Exported};
 ghost use Rattle.module_rules.specs.Lookup.{Marks, function_decl, function_decls, lookup_lists};
 ghost use Rattle.module_rules.specs.References.{exported_functions, listed_functions, named_functions, is_referenced};
 ghost use Rattle.module_rules.specs.Segments.{item_type};
 
-use crate::copies::copied_types;
 use crate::elements::item_type;
 use crate::items::{
     DeclaredFunction, DeclaredGlobal, DeclaredMemory, DeclaredTable, DeclaredTag, Export,
@@ -19,7 +18,8 @@ use crate::items::{
 use crate::module::DeclaredModule;
 use crate::segments::{DataCount, Element, ElementItems};
 use std::alloc::Global;
-use validate_resources::{FuncDecl, ModuleDeclarations};
+use validate_resources::FuncDecl;
+use validate_resources::valid::ModuleItems;
 use validate_types::{GlobalType, MemoryType, OutOfMemory, RefType, TableType};
 
 /// Marks the function at this index, if there is one.
@@ -211,22 +211,18 @@ fn stored_types(alloc: Global, declared: &DeclaredModule) -> Result<StoredTypes,
     })
 }
 
-/// What a lookup over lists is handed of a module: its types, and the types of its other items. It takes
-/// memory for the lists, and refuses where there is none. Of a valid module `ModuleLists::new` refuses none.
-pub fn lookup_lists(
-    alloc: Global,
-    declared: &DeclaredModule,
-) -> Result<ModuleDeclarations, OutOfMemory>
-    ensures { IfOk result (λ l. declared_in l ≡ lookup_lists (declarations_of declared.now)) }
+/// What a lookup over lists is handed of a module besides its types: the types of its items. It takes memory for the
+/// lists, and refuses where there is none.
+pub fn lookup_items(alloc: Global, declared: &DeclaredModule) -> Result<ModuleItems, OutOfMemory>
+    ensures { IfOk result (λ l. declared_with (declarations_of declared.now).types l
+        ≡ lookup_lists (declarations_of declared.now)) }
 {
     let functions = function_decls(alloc, declared)?;
     let tags = tag_types(alloc, &declared.tags)?;
     let elements = element_types(alloc, &declared.elements)?;
     let stored = stored_types(alloc, declared)?;
-    let types = copied_types(alloc, &declared.types)?;
-    Ok(ModuleDeclarations {
+    Ok(ModuleItems {
         data_count: said_count(declared.data_count),
-        types,
         functions,
         tables: stored.tables,
         memories: stored.memories,

@@ -18,7 +18,8 @@ fn duplicate(alloc: Global, export: &Export) -> Error {
     )
 }
 
-/// No two exports have one name. It takes memory for the set of the names.
+/// No two exports have one name. It takes memory for the set of the names. They are ordered by their lengths first, since those
+/// of compiled code begin alike.
 pub fn check_names(alloc: Global, exports: &[Export]) -> Result<(), Error>
     ensures valid { OnOk result (are_distinct (map (λ (e : Exported). e.name) exports.now) ≡ true) }
     ensures invalid { IfErr result (λ e. e.wants_memory ≡ false
@@ -26,7 +27,8 @@ pub fn check_names(alloc: Global, exports: &[Export]) -> Result<(), Error>
 {
     let mut names = BTreeSet::new(alloc);
     for export in exports {
-        match names.insert(export.name.as_str()) {
+        let name = export.name.as_str();
+        match names.insert((name.len(), name)) {
             Ok(true) => {}
             Ok(false) => return Err(duplicate(alloc, export)),
             Err(_) => return Err(Error::out_of_memory(export.offset)),

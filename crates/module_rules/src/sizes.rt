@@ -1,6 +1,6 @@
 //! Sizes that tables and memories may have (WebAssembly core specification, "Validation: Types", limits).
 
-ghost use Rattle.std.specs.Prelude.{◌≡◌};
+ghost use Rattle.std.specs.Prelude.{◌≡◌, ℕ, false};
 ghost use Rattle.module_rules.specs.Limits.{is_valid_maximum, are_within, address_bits, table_bound, memory_bound};
 
 use crate::items::Limits;
@@ -12,6 +12,17 @@ fn is_valid_maximum(bound: u64, initial: u64, maximum: Option<u64>) -> bool
     match maximum {
         None => true,
         Some(maximum) => initial <= maximum && maximum <= bound,
+    }
+}
+
+/// Whether the maximum, if there is one, isn't below the size at first.
+#[tactic(auto, using(crate::proofs::Decided::and_false))]
+pub fn are_ordered(limits: Limits) -> bool
+    ensures { result ≡ false → (bound : ℕ) → are_within bound limits ≡ false }
+{
+    match limits.maximum {
+        None => true,
+        Some(maximum) => limits.initial <= maximum,
     }
 }
 

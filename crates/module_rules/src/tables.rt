@@ -1,15 +1,20 @@
 //! Whether the tables of a module are valid (WebAssembly core specification, "Table Types", and "Modules":
 //! tables).
 
-ghost use Rattle.std.specs.Prelude.{◌≡◌, ℕ};
+ghost use Rattle.std.specs.Prelude.{◌≡◌, ◌&&◌, ◌||◌, ℕ, is_ok, length, not};
 ghost use Rattle.std.specs.List.{list_all, enumerate_from};
-ghost use Rattle.module_rules.specs.Tables.{is_any_function, is_funcref, is_valid_element_type, is_table_enabled, is_valid_table_type, may_begin_so, is_valid_table, max_tables, are_valid_tables};
+ghost use Rattle.validate_resources.specs.Indices.{is_known, ref_indices_pass};
+ghost use Rattle.validate_resources.specs.Order.{is_heap_shared};
+ghost use Rattle.validate_types.specs.Features.{is_ref_enabled};
+ghost use Rattle.module_rules.specs.Features.{is_on, operator_features, shared_everything_threads};
+ghost use Rattle.module_rules.specs.Tables.{is_any_function, is_funcref, is_valid_element_type, is_valid_table_type, may_begin_so, is_valid_table, max_tables, are_valid_tables};
 
+use crate::faults::{Fault, Located, locate};
 use crate::features::ModuleFeatures;
-use crate::indices::has_known_ref_index;
+use crate::indices::known_in_ref;
 use crate::items::{DeclaredTable, TableInit};
 use crate::limits::MAX_WASM_TABLES;
-use crate::sizes::are_table_limits;
+use crate::sizes::{are_ordered, are_table_limits};
 use validate_resources::order::is_heap_shared;
 use validate_types::{AbstractHeapType, HeapType, RefType, SubType};
 
@@ -33,56 +38,111 @@ fn is_funcref(ty: RefType) -> bool
     ty.is_nullable() && is_any_function(ty.heap_type())
 }
 
-/// Whether elements of a table or of a segment may be of this type.
-pub fn is_valid_element_type(features: ModuleFeatures, types: &[SubType], ty: RefType) -> bool
-    ensures { result ≡ is_valid_element_type features types.now ty }
+/// The type that a reference type names is there.
+fn check_named_type(types: &[SubType], ty: RefType) -> Result<(), Fault>
+    ensures { is_ok result ≡ ref_indices_pass (is_known (length types.now)) ty }
 {
-    (is_funcref(ty) || features.operator_features().check_ref_type(ty).is_ok())
-        && has_known_ref_index(ty, types.len())
-}
-
-/// Whether the proposals of a table's addresses and sharedness are on, and the elements of a shared one are
-/// shared.
-fn is_table_enabled(features: ModuleFeatures, types: &[SubType], table: &DeclaredTable) -> bool
-    ensures { result ≡ is_table_enabled features types.now table.now }
-{
-    (!table.ty.table64 || features.memory64())
-        && (!table.ty.shared
-            || features.shared_everything_threads()
-                && is_heap_shared(types, table.ty.element_type.heap_type()))
-}
-
-/// Whether the type of a table is valid.
-fn is_valid_table_type(features: ModuleFeatures, types: &[SubType], table: &DeclaredTable) -> bool
-    ensures { result ≡ is_valid_table_type features types.now table.now }
-{
-    is_valid_element_type(features, types, table.ty.element_type)
-        && is_table_enabled(features, types, table)
-        && are_table_limits(table.ty.table64, table.limits)
-}
-
-/// Whether elements of this type may be so at first.
-fn may_begin_so(features: ModuleFeatures, ty: RefType, init: TableInit) -> bool
-    ensures { result ≡ may_begin_so features ty init }
-{
-    match init {
-        TableInit::RefNull => ty.is_nullable(),
-        TableInit::Expr => features.function_references(),
+    match known_in_ref(ty, types.len()) {
+        Ok(()) => Ok(()),
+        Err(index) => Err(Fault::UnknownType(index)),
     }
 }
 
-/// Whether the table at this index is valid, where so many are imported.
-pub fn is_valid_table(
+/// The proposal of a reference type is on. That of `funcref` always is.
+fn check_ref_type(features: ModuleFeatures, ty: RefType) -> Result<(), Fault>
+    ensures { is_ok result ≡ (is_funcref ty || is_ref_enabled (operator_features features) ty) }
+{
+    if is_funcref(ty) {
+        return Ok(());
+    }
+    match features.operator_features().check_ref_type(ty) {
+        Ok(()) => Ok(()),
+        Err(text) => Err(Fault::TypeOff(text)),
+    }
+}
+
+/// Elements of a table or of a segment may be of this type.
+pub fn check_element_type(
+    features: ModuleFeatures,
+    types: &[SubType],
+    ty: RefType,
+) -> Result<(), Fault>
+    ensures { is_ok result ≡ is_valid_element_type features types.now ty }
+{
+    check_ref_type(features, ty)?;
+    check_named_type(types, ty)
+}
+
+/// The proposal of a shared table is on, and its elements are shared.
+fn check_shared(
+    features: ModuleFeatures,
+    types: &[SubType],
+    table: &DeclaredTable,
+) -> Result<(), Fault>
+    ensures { is_ok result ≡ (not table.now.ty.shared || is_on features shared_everything_threads
+        && is_heap_shared types.now table.now.ty.element_type.heap_type) }
+{
+    if !table.ty.shared {
+        return Ok(());
+    }
+    if !features.shared_everything_threads() {
+        return Err(Fault::SharedTablesOff);
+    }
+    if !is_heap_shared(types, table.ty.element_type.heap_type()) {
+        return Err(Fault::UnsharedElements);
+    }
+    Ok(())
+}
+
+/// The type of a table is valid.
+#[tactic(auto, using(crate::proofs::Decided::and_false))]
+fn check_table_type(
+    features: ModuleFeatures,
+    types: &[SubType],
+    table: &DeclaredTable,
+) -> Result<(), Fault>
+    ensures { is_ok result ≡ is_valid_table_type features types.now table.now }
+{
+    check_element_type(features, types, table.ty.element_type)?;
+    if table.ty.table64 && !features.memory64() {
+        return Err(Fault::Table64Off);
+    }
+    if !are_ordered(table.limits) {
+        return Err(Fault::MinimumAboveMaximum);
+    }
+    check_shared(features, types, table)?;
+    if !are_table_limits(table.ty.table64, table.limits) {
+        return Err(Fault::TableTooLarge);
+    }
+    Ok(())
+}
+
+/// Elements of this type may be so at first.
+fn check_init(features: ModuleFeatures, ty: RefType, init: TableInit) -> Result<(), Fault>
+    ensures { is_ok result ≡ may_begin_so features ty init }
+{
+    match init {
+        TableInit::RefNull if !ty.is_nullable() => Err(Fault::NoInitializer),
+        TableInit::Expr if !features.function_references() => Err(Fault::TableInitializersOff),
+        _ => Ok(()),
+    }
+}
+
+/// The table at this index is valid, where so many are imported.
+fn check_table(
     features: ModuleFeatures,
     types: &[SubType],
     imported: u32,
     index: usize,
     table: &DeclaredTable,
-) -> bool
-    ensures { result ≡ is_valid_table features types.now imported index table.now }
+) -> Result<(), Fault>
+    ensures { is_ok result ≡ is_valid_table features types.now imported index table.now }
 {
-    is_valid_table_type(features, types, table)
-        && (index < imported as usize || may_begin_so(features, table.ty.element_type, table.init))
+    check_table_type(features, types, table)?;
+    if index < imported as usize {
+        return Ok(());
+    }
+    check_init(features, table.ty.element_type, table.init)
 }
 
 /// So many tables a module may have.
@@ -96,32 +156,36 @@ pub fn max_tables(features: ModuleFeatures) -> usize
     }
 }
 
-/// Whether each table is valid.
-fn is_each_table_valid(
+/// Each table is valid.
+fn check_each_table(
     features: ModuleFeatures,
     types: &[SubType],
     imported: u32,
     tables: &[DeclaredTable],
-) -> bool
-    ensures { result ≡ list_all (λ (e : ℕ × DeclaredTable).
+) -> Result<(), Located>
+    ensures { is_ok result ≡ list_all (λ (e : ℕ × DeclaredTable).
         is_valid_table features types.now imported e.0 e.1) (enumerate_from 0 tables.now) }
 {
     for index in 0..tables.len() {
-        if !is_valid_table(features, types, imported, index, &tables[index]) {
-            return false;
-        }
+        let table = &tables[index];
+        let checked = check_table(features, types, imported, index, table);
+        locate(checked, table.offset)?;
     }
-    true
+    Ok(())
 }
 
-/// Whether the tables are valid.
-pub fn are_valid_tables(
+/// The tables are valid.
+pub fn check_tables(
     features: ModuleFeatures,
     types: &[SubType],
     imported: u32,
     tables: &[DeclaredTable],
-) -> bool
-    ensures { result ≡ are_valid_tables features types.now imported tables.now }
+) -> Result<(), Located>
+    ensures { is_ok result ≡ are_valid_tables features types.now imported tables.now }
 {
-    tables.len() <= max_tables(features) && is_each_table_valid(features, types, imported, tables)
+    let most = max_tables(features);
+    if let Some(table) = tables.get(most) {
+        return Err(Fault::too_many("tables", most).at(table.offset));
+    }
+    check_each_table(features, types, imported, tables)
 }

@@ -1,19 +1,27 @@
 //! Whether the types that a module declares are valid (WebAssembly core specification, "Validation: Types").
 
-ghost use Rattle.std.specs.Prelude.{◌≡◌, ◌+◌, ◌≤◌, ℕ, slice_get, length};
+ghost use Rattle.std.specs.Prelude.{◌≡◌, ◌&&◌, ℕ, is_ok, slice_get};
 ghost use Rattle.std.specs.List.{list_all, enumerate_from};
+ghost use Rattle.validate_types.specs.declared.types.CompositeInnerType.TheVariants.{Struct};
 ghost use Rattle.validate_types.specs.declared.types.FieldType.{FieldType};
 ghost use Rattle.validate_types.specs.declared.types.SubType.{SubType};
 ghost use Rattle.validate_types.specs.Types.{unpacked_type};
-ghost use Rattle.module_rules.specs.Types.{is_type_shared, may_stand_in, value_types_pass, is_kind_enabled, is_composite_enabled, is_valid_composite, matches_type, matches_supertype, is_sub_type_enabled, is_valid_sub_type};
+ghost use Rattle.validate_resources.specs.Lists.{continues_function};
+ghost use Rattle.module_rules.specs.Types.{is_type_shared, may_stand_in, value_types_pass, is_kind_enabled, is_composite_enabled, is_valid_composite, matches_type, matches_supertype, is_sub_type_enabled, is_valid_sub_type, has_valid_chain, are_valid_types};
 
+use crate::descriptors::check_descriptors;
+use crate::faults::{Fault, Located};
 use crate::features::ModuleFeatures;
+use crate::globals::check_type_on;
+use crate::groups::{check_chain, check_groups};
+use crate::items::RecGroup;
 use crate::limits::MAX_WASM_STRUCT_FIELDS;
 use crate::matching::is_composite_below;
-use validate_resources::kinds::continues_function;
+use validate_resources::kinds::{continuation_of, is_func_type};
 use validate_resources::order::{is_heap_shared, number};
 use validate_types::{
-    CompositeInnerType, CompositeType, FieldType, FuncType, PackedIndex, SubType, ValType,
+    CompositeInnerType, CompositeType, FieldType, FuncType, PackedIndex, StructType, SubType,
+    ValType,
 };
 
 /// Whether a value type is shared.
@@ -26,147 +34,260 @@ pub fn is_type_shared(types: &[SubType], ty: ValType) -> bool
     }
 }
 
-/// Whether the proposal of a value type is on, and the type is shared if it stands in what is shared.
-fn may_stand_in(features: ModuleFeatures, types: &[SubType], shared: bool, ty: ValType) -> bool
-    ensures { result ≡ may_stand_in features types.now shared ty }
+/// The proposal of a value type is on, and the type is shared if it stands in what is shared.
+fn check_part(
+    features: ModuleFeatures,
+    types: &[SubType],
+    shared: bool,
+    ty: ValType,
+) -> Result<(), Fault>
+    ensures { is_ok result ≡ may_stand_in features types.now shared ty }
 {
-    features.operator_features().check_value_type(ty).is_ok()
-        && (!shared || is_type_shared(types, ty))
+    check_type_on(features, ty)?;
+    if shared && !is_type_shared(types, ty) {
+        return Err(Fault::UnsharedPart);
+    }
+    Ok(())
 }
 
 /// The same of each of these types.
-fn may_all_stand_in(
+fn check_each_part(
     features: ModuleFeatures,
     types: &[SubType],
     shared: bool,
     listed: &[ValType],
-) -> bool
-    ensures { result ≡ list_all (may_stand_in features types.now shared) listed.now }
+) -> Result<(), Fault>
+    ensures { is_ok result ≡ list_all (may_stand_in features types.now shared) listed.now }
 {
     for ty in listed {
-        if !may_stand_in(features, types, shared, *ty) {
-            return false;
-        }
+        check_part(features, types, shared, *ty)?;
     }
-    true
+    Ok(())
 }
 
 /// The same of what each of these fields holds.
-fn may_fields_stand_in(
+fn check_fields(
     features: ModuleFeatures,
     types: &[SubType],
     shared: bool,
     fields: &[FieldType],
-) -> bool
-    ensures { result ≡ list_all (λ (f : FieldType).
+) -> Result<(), Fault>
+    ensures { is_ok result ≡ list_all (λ (f : FieldType).
         may_stand_in features types.now shared (unpacked_type f.element_type)) fields.now }
 {
     for field in fields {
-        if !may_stand_in(features, types, shared, field.element_type.unpack()) {
-            return false;
-        }
+        check_part(features, types, shared, field.element_type.unpack())?;
     }
-    true
+    Ok(())
+}
+
+/// The same of what a function takes and gives.
+fn check_func(
+    features: ModuleFeatures,
+    types: &[SubType],
+    shared: bool,
+    ty: &FuncType,
+) -> Result<(), Fault>
+    ensures { is_ok result ≡ (list_all (may_stand_in features types.now shared) ty.now.params
+        && list_all (may_stand_in features types.now shared) ty.now.results) }
+{
+    check_each_part(features, types, shared, ty.params())?;
+    check_each_part(features, types, shared, ty.results())
 }
 
 /// The same of each value type that a type is made of.
-fn may_parts_stand_in(
+fn check_parts(
     features: ModuleFeatures,
     types: &[SubType],
     shared: bool,
     inner: &CompositeInnerType,
-) -> bool
-    ensures { result ≡ value_types_pass (may_stand_in features types.now shared) inner.now }
+) -> Result<(), Fault>
+    ensures { is_ok result ≡ value_types_pass (may_stand_in features types.now shared) inner.now }
 {
     match inner {
-        CompositeInnerType::Func(ty) => {
-            may_all_stand_in(features, types, shared, ty.params())
-                && may_all_stand_in(features, types, shared, ty.results())
-        }
+        CompositeInnerType::Func(ty) => check_func(features, types, shared, ty),
         CompositeInnerType::Array(ty) => {
-            may_stand_in(features, types, shared, ty.0.element_type.unpack())
+            check_part(features, types, shared, ty.0.element_type.unpack())
         }
-        CompositeInnerType::Struct(ty) => may_fields_stand_in(features, types, shared, &ty.fields),
-        CompositeInnerType::Cont(_) => true,
+        CompositeInnerType::Struct(ty) => check_fields(features, types, shared, &ty.fields),
+        CompositeInnerType::Cont(_) => Ok(()),
     }
 }
 
-/// Whether the proposal of what a type is made of is on, and a struct has no more fields than may be.
-fn is_kind_enabled(features: ModuleFeatures, inner: &CompositeInnerType) -> bool
-    ensures { result ≡ is_kind_enabled features inner.now }
+/// The proposal of struct types is on, and a struct has no more fields than may be.
+fn check_struct_on(features: ModuleFeatures, ty: &StructType) -> Result<(), Fault>
+    ensures { is_ok result ≡ is_kind_enabled features (Struct ty.now) }
+{
+    if !features.gc() {
+        return Err(Fault::StructsOff);
+    }
+    if ty.fields.len() > MAX_WASM_STRUCT_FIELDS {
+        return Err(Fault::TooManyFields);
+    }
+    Ok(())
+}
+
+/// The proposal of what a type is made of is on, and a struct has no more fields than may be.
+fn check_kind_on(features: ModuleFeatures, inner: &CompositeInnerType) -> Result<(), Fault>
+    ensures { is_ok result ≡ is_kind_enabled features inner.now }
 {
     match inner {
-        CompositeInnerType::Func(ty) => ty.results().len() <= 1 || features.multi_value(),
-        CompositeInnerType::Array(_) => features.gc(),
-        CompositeInnerType::Struct(ty) => {
-            features.gc() && ty.fields.len() <= MAX_WASM_STRUCT_FIELDS
+        CompositeInnerType::Func(ty) if ty.results().len() > 1 && !features.multi_value() => {
+            Err(Fault::SeveralResultsOff)
         }
-        CompositeInnerType::Cont(_) => features.stack_switching(),
+        CompositeInnerType::Array(_) if !features.gc() => Err(Fault::ArraysOff),
+        CompositeInnerType::Cont(_) if !features.stack_switching() => Err(Fault::ContinuationsOff),
+        CompositeInnerType::Struct(ty) => check_struct_on(features, ty),
+        CompositeInnerType::Func(_) | CompositeInnerType::Array(_) | CompositeInnerType::Cont(_) =>
+            { Ok(()) }
     }
 }
 
-/// Whether the proposals of a composite type's kind, sharedness and descriptors are on.
-pub fn is_composite_enabled(features: ModuleFeatures, ty: &CompositeType) -> bool
-    ensures { result ≡ is_composite_enabled features ty.now }
+/// The proposals of a composite type's sharedness, descriptors and kind are on.
+#[tactic(auto, using(crate::proofs::Decided::and_false, crate::proofs::Decided::and_true))]
+fn check_composite_on(features: ModuleFeatures, ty: &CompositeType) -> Result<(), Fault>
+    ensures { is_ok result ≡ is_composite_enabled features ty.now }
 {
-    is_kind_enabled(features, &ty.inner)
-        && (!ty.shared || features.shared_everything_threads())
-        && (ty.descriptor_idx.is_none() && ty.describes_idx.is_none()
-            || features.custom_descriptors())
+    if ty.shared && !features.shared_everything_threads() {
+        return Err(Fault::SharedTypesOff);
+    }
+    let has_descriptors = ty.descriptor_idx.is_some() || ty.describes_idx.is_some();
+    if has_descriptors && !features.custom_descriptors() {
+        return Err(Fault::DescriptorsOff);
+    }
+    check_kind_on(features, &ty.inner)
 }
 
-/// Whether a composite type is valid.
-pub fn is_valid_composite(features: ModuleFeatures, types: &[SubType], ty: &CompositeType) -> bool
-    ensures { result ≡ is_valid_composite features types.now ty.now }
+/// A composite type is valid.
+fn check_composite(
+    features: ModuleFeatures,
+    types: &[SubType],
+    ty: &CompositeType,
+) -> Result<(), Fault>
+    ensures { is_ok result ≡ is_valid_composite features types.now ty.now }
 {
-    is_composite_enabled(features, ty) && may_parts_stand_in(features, types, ty.shared, &ty.inner)
+    check_composite_on(features, ty)?;
+    check_parts(features, types, ty.shared, &ty.inner)
 }
 
-/// Whether the type at this index is there, is not final, and is matched by this one.
-fn matches_type(types: &[SubType], ty: &CompositeType, index: u32) -> bool
-    ensures { result ≡ matches_type types.now ty.now (slice_get types.now index) }
+/// What a continuation runs is a function.
+fn check_continuation(types: &[SubType], ty: &SubType) -> Result<(), Fault>
+    ensures { is_ok result ≡ continues_function types.now ty.now }
 {
-    match types.get(index as usize) {
-        Some(above) => !above.is_final && is_composite_below(types, ty, &above.composite_type),
-        None => false,
+    match continuation_of(ty) {
+        Some(index) if !is_func_type(types, number(index.unpack())) => {
+            Err(Fault::ContinuationOfNoFunction(number(index.unpack())))
+        }
+        _ => Ok(()),
     }
 }
 
-/// Whether a type has no supertype, or matches it.
-fn matches_supertype(types: &[SubType], ty: &CompositeType, supertype: Option<PackedIndex>) -> bool
-    ensures { result ≡ matches_supertype types.now ty.now supertype }
+/// The type at this index is there, is not final, and is matched by this one.
+fn check_matches(types: &[SubType], ty: &CompositeType, index: u32) -> Result<(), Fault>
+    ensures { is_ok result ≡ matches_type types.now ty.now (slice_get types.now index) }
+{
+    let Some(above) = types.get(index as usize) else {
+        return Err(Fault::SupertypeMismatch);
+    };
+    if above.is_final {
+        return Err(Fault::FinalSupertype);
+    }
+    if !is_composite_below(types, ty, &above.composite_type) {
+        return Err(Fault::SupertypeMismatch);
+    }
+    Ok(())
+}
+
+/// A type has no supertype, or matches it.
+fn check_supertype(
+    types: &[SubType],
+    ty: &CompositeType,
+    supertype: Option<PackedIndex>,
+) -> Result<(), Fault>
+    ensures { is_ok result ≡ matches_supertype types.now ty.now supertype }
 {
     match supertype {
-        None => true,
-        Some(supertype) => matches_type(types, ty, number(supertype.unpack())),
+        None => Ok(()),
+        Some(supertype) => check_matches(types, ty, number(supertype.unpack())),
     }
 }
 
-/// Whether a type is final and has no supertype, or the proposal that brings these is on.
-pub fn is_sub_type_enabled(features: ModuleFeatures, ty: &SubType) -> bool
-    ensures { result ≡ is_sub_type_enabled features ty.now }
+/// A type is final and has no supertype, or the proposal that brings these is on.
+fn check_sub_type_on(features: ModuleFeatures, ty: &SubType) -> Result<(), Fault>
+    ensures { is_ok result ≡ is_sub_type_enabled features ty.now }
 {
-    ty.is_final && ty.supertype_idx.is_none() || features.gc()
+    if ty.is_final && ty.supertype_idx.is_none() || features.gc() {
+        return Ok(());
+    }
+    Err(Fault::SubtypesOff)
 }
 
-/// Whether a type is valid among those that the module declares.
-pub fn is_valid_sub_type(features: ModuleFeatures, types: &[SubType], ty: &SubType) -> bool
-    ensures { result ≡ is_valid_sub_type features types.now ty.now }
+/// A type is valid among those that the module declares.
+fn check_sub_type(features: ModuleFeatures, types: &[SubType], ty: &SubType) -> Result<(), Fault>
+    ensures { is_ok result ≡ is_valid_sub_type features types.now ty.now }
 {
-    is_sub_type_enabled(features, ty)
-        && is_valid_composite(features, types, &ty.composite_type)
-        && continues_function(types, ty)
-        && matches_supertype(types, &ty.composite_type, ty.supertype_idx)
+    check_sub_type_on(features, ty)?;
+    check_composite(features, types, &ty.composite_type)?;
+    check_continuation(types, ty)?;
+    check_supertype(types, &ty.composite_type, ty.supertype_idx)
 }
 
-/// Whether each type is valid among those that the module declares.
-pub fn are_valid_sub_types(features: ModuleFeatures, types: &[SubType]) -> bool
-    ensures { result ≡ list_all (is_valid_sub_type features types.now) types.now }
+/// The chain of supertypes above the type at this index is valid, and so is the type.
+fn check_type(
+    features: ModuleFeatures,
+    types: &[SubType],
+    index: usize,
+    ty: &SubType,
+) -> Result<(), Fault>
+    ensures { is_ok result ≡ (has_valid_chain types.now index ty.now
+        && is_valid_sub_type features types.now ty.now) }
 {
-    for ty in types {
-        if !is_valid_sub_type(features, types, ty) {
-            return false;
+    check_chain(types, index, ty)?;
+    check_sub_type(features, types, ty)
+}
+
+/// Where the group stands that the type at this index is in.
+pub fn offset_of_type(groups: &[RecGroup], index: usize) -> u64 {
+    let mut end = 0usize;
+    let mut offset = 0;
+    for group in groups {
+        offset = group.offset;
+        end = end.saturating_add(group.count as usize);
+        if index < end {
+            return offset;
         }
     }
-    true
+    offset
+}
+
+/// Each type is valid, and so is the chain of supertypes above it. A fault is that of the group.
+fn check_each_type(
+    features: ModuleFeatures,
+    types: &[SubType],
+    groups: &[RecGroup],
+) -> Result<(), Located>
+    ensures { is_ok result ≡ list_all (λ (e : ℕ × SubType). has_valid_chain types.now e.0 e.1
+        && is_valid_sub_type features types.now e.1) (enumerate_from 0 types.now) }
+{
+    for index in 0..types.len() {
+        if let Err(fault) = check_type(features, types, index, &types[index]) {
+            return Err(fault.at(offset_of_type(groups, index)));
+        }
+    }
+    Ok(())
+}
+
+/// The types are valid, by these groups and these names. Names that are too few are told of at this offset.
+pub fn check_types(
+    features: ModuleFeatures,
+    types: &[SubType],
+    groups: &[RecGroup],
+    names: &[u32],
+    offset: u64,
+) -> Result<(), Located>
+    ensures { is_ok result ≡ are_valid_types features types.now groups.now names.now }
+{
+    check_groups(features, types, groups)?;
+    check_each_type(features, types, groups)?;
+    check_descriptors(types, groups, names, offset)
 }

@@ -7,6 +7,7 @@ pub mod kinds;
 mod lists;
 pub mod order;
 pub mod uses;
+pub mod valid;
 
 ghost use Rattle.std.specs.Prelude.{◌≡◌, true, false, None, Some, IsSome, IfSome, OnOk, IfErr};
 ghost use Rattle.std.specs.Option.{option_copied};

@@ -1,6 +1,6 @@
 //! A lookup over lists.
 
-mod canonical;
+pub(crate) mod canonical;
 
 ghost use Rattle.std.specs.Prelude.{◌≡◌, ◌<◌, ◌≤◌, ◌&&◌, ℕ, length, codes, slice_get, Some, None, Ok, true, false, nat_lt, is_ok, IsTrue, IfOk, OnOk, OnErr, IfErr};
 ghost use Rattle.std.specs.List.{list_all};
@@ -108,7 +108,7 @@ impl ModuleLists {
     }
 
     /// Keeps the canonical forms with the other lists. It takes no memory.
-    fn from_forms(
+    pub(crate) fn from_forms(
         alloc: Global,
         forms: Forms,
         functions: Vec<FuncDecl>,

@@ -36,6 +36,9 @@ impl Stacks {
     {
         let popped = self.count_popped(&told, popped);
         let error = self.refusal(resources, told, offset);
+        if error.is_out_of_memory() {
+            return error;
+        }
         match self.exchange::<Told>(popped, &[]) {
             Ok(()) => error,
             Err(_) => Error::out_of_memory(offset),

@@ -5,7 +5,7 @@ ghost use Rattle.std.specs.Prelude.{◌≡◌, [], false, IfOk};
 ghost use Rattle.validate_stacks.specs.State.{IsStarting};
 ghost use Rattle.wasmparser_validate.specs.Start.{state};
 
-use crate::expectations::{ample, expect, expect_error, expect_same};
+use crate::expectations::{ample, expect, expect_error};
 use crate::modules::lists_of;
 use crate::visits::{I32_CONST, I64_CONST};
 use std::alloc::AllocError;
@@ -85,16 +85,20 @@ fn expect_two_operands<R: WasmModuleResources>(
     rt: &impl Abort,
     function: &FuncValidator<'_, '_, R>,
 ) {
-    expect_same(rt, function.operand_stack_height(), 2);
-    expect_same(rt, function.control_stack_height(), 1);
-    expect_same(rt, function.peek_operand_at(0), Some(Some(ValType::I32)));
-    expect_same(rt, function.get_operand_type(1), Some(Some(ValType::I64)));
-    expect_same(rt, function.peek_operand_at(2), None);
-    expect_same(rt, function.current_frame(), Some(FrameKind::Block));
-    expect_same(rt, function.get_frame(0), Some(&function.first_frame()));
-    expect_same(rt, function.get_control_frame(1), None);
-    expect_same(rt, function.accepted().len(), 2);
-    expect(rt, !function.is_failed());
+    expect(
+        rt,
+        function.operand_stack_height() == 2 && function.control_stack_height() == 1,
+    );
+    expect(rt, function.peek_operand_at(0) == Some(Some(ValType::I32)));
+    expect(rt, function.get_operand_type(1) == Some(Some(ValType::I64)));
+    expect(rt, function.peek_operand_at(2).is_none());
+    expect(
+        rt,
+        matches!(function.current_frame(), Some(FrameKind::Block)),
+    );
+    expect(rt, function.get_frame(0) == Some(&function.first_frame()));
+    expect(rt, function.get_control_frame(1).is_none());
+    expect(rt, function.accepted().len() == 2 && !function.is_failed());
 }
 
 /// The types of all operands are an i64 and, on top, an i32.
@@ -106,7 +110,7 @@ fn expect_types<R: WasmModuleResources>(
         return Err(AllocError);
     };
     let expected = [Some(ValType::I64), Some(ValType::I32)];
-    expect_same(rt, types.as_slice(), expected.as_slice());
+    expect(rt, types.as_slice() == expected.as_slice());
     Ok(())
 }
 
@@ -120,8 +124,10 @@ fn expect_five_accepted<R: WasmModuleResources>(
     expect_two_operands(rt, function);
     expect_types(rt, function)?;
     accept(rt, function, &[DROP, DROP, END])?;
-    expect_same(rt, function.accepted().len(), 5);
-    expect_same(rt, function.current_frame(), None);
+    expect(
+        rt,
+        function.accepted().len() == 5 && function.current_frame().is_none(),
+    );
     ample(rt, function.finish(9))
 }
 
@@ -142,7 +148,7 @@ fn expect_refusals<R: WasmModuleResources>(
     expect(rt, function.is_failed());
     expect_error(rt, visit(rt, function, I32_CONST), FAILED, 9)?;
     expect_error(rt, attempt(rt, function, I32_CONST), FAILED, 9)?;
-    expect_same(rt, function.accepted().len(), 0);
+    expect(rt, function.accepted().is_empty());
     expect_error(rt, function.finish(9), FAILED, 9)
 }
 
@@ -153,15 +159,26 @@ fn a_function_that_has_failed_refuses_whatever_comes(rt: HostRuntime) -> Result<
     expect_refusals(&rt, &mut function)
 }
 
+/// It takes three locals, and has none behind them.
+fn expect_locals<R: WasmModuleResources>(
+    rt: &impl Abort,
+    function: &mut FuncValidator<'_, '_, R>,
+) -> Result<(), AllocError>
+    requires first { function.old.accepted ≡ [] }
+    requires none_failed { function.old.failed ≡ false }
+{
+    ample(rt, function.define_locals(1, 3, ValType::I64))?;
+    expect(rt, function.len_locals() == 3);
+    expect(rt, function.get_local_type(2) == Some(ValType::I64));
+    expect(rt, function.get_local_type(3).is_none());
+    Ok(())
+}
+
 #[test]
 fn locals_of_a_function(rt: HostRuntime) -> Result<(), AllocError> {
     let lists = lists_of(&rt, "type func ->")?;
     let mut function = function_of(&rt, &lists)?;
-    ample(&rt, function.define_locals(1, 3, ValType::I64))?;
-    expect_same(&rt, function.len_locals(), 3);
-    expect_same(&rt, function.get_local_type(2), Some(ValType::I64));
-    expect_same(&rt, function.get_local_type(3), None);
-    Ok(())
+    expect_locals(&rt, &mut function)
 }
 
 /// The operators of a sum of the parameter and a constant.
@@ -172,8 +189,12 @@ const SUM: &[(Op<'static>, u64)] = &[
     (END, 6),
 ];
 
-/// How many operands there are before some of them, of which each is an i32.
-const BEFORE: &[(usize, usize)] = &[(0, 0), (2, 2), (4, 1)];
+/// The types of the operands before some of them.
+const BEFORE: &[(usize, &[Option<ValType>])] = &[
+    (0, &[]),
+    (2, &[Some(ValType::I32), Some(ValType::I32)]),
+    (4, &[Some(ValType::I32)]),
+];
 
 /// The types of the operands before an operator.
 fn types_before<R: WasmModuleResources>(
@@ -192,17 +213,31 @@ fn types_before<R: WasmModuleResources>(
     }
 }
 
+/// The same, in a function that begins.
+fn types_in_new<R: WasmModuleResources>(
+    rt: &(impl Abort + AllocGlobal),
+    lists: &R,
+    place: usize,
+) -> Result<Vec<Option<ValType>>, AllocError> {
+    let allocs = OperatorValidatorAllocations::new(rt.alloc());
+    let begun = OperatorValidator::new_func(0, 2, &WasmFeatures::all(), lists, allocs);
+    types_before(rt, &mut ample(rt, begun)?, lists, place)
+}
+
+/// These are the types of the operands before some operators.
+fn expect_before<R: WasmModuleResources>(
+    rt: &(impl Abort + AllocGlobal),
+    lists: &R,
+) -> Result<(), AllocError> {
+    for (place, expected) in BEFORE {
+        let types = types_in_new(rt, lists, *place)?;
+        expect(rt, types.as_slice() == *expected);
+    }
+    Ok(())
+}
+
 #[test]
 fn types_between_operators(rt: HostRuntime) -> Result<(), AllocError> {
     let lists = lists_of(&rt, "type func i32 -> i32")?;
-    for (place, count) in BEFORE {
-        let allocs = OperatorValidatorAllocations::new(rt.alloc());
-        let begun = OperatorValidator::new_func(0, 2, &WasmFeatures::all(), &lists, allocs);
-        let types = types_before(&rt, &mut ample(&rt, begun)?, &lists, *place)?;
-        expect_same(&rt, types.len(), *count);
-        for ty in &types {
-            expect_same(&rt, *ty, Some(ValType::I32));
-        }
-    }
-    Ok(())
+    expect_before(&rt, &lists)
 }

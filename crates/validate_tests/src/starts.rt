@@ -12,7 +12,7 @@ ghost use Rattle.wasmparser_validate.specs.Start.{state};
 use crate::answers::Step;
 use crate::bodies::{Way, expect_bodies};
 use crate::counted::expect_runs;
-use crate::expectations::{ample, expect, expect_error, expect_same};
+use crate::expectations::{ample, expect, expect_error};
 use crate::modules::lists_of;
 use crate::visits::Call;
 use std::alloc::AllocError;
@@ -49,6 +49,11 @@ fn taken(
     mem::replace(used, OperatorValidatorAllocations::new(rt.alloc()))
 }
 
+/// The innermost frame is a block of this type.
+fn expect_label(rt: &impl Abort, v: &OperatorValidator, ty: BlockType) {
+    expect(rt, v.jump(0) == Some((ty, FrameKind::Block)));
+}
+
 /// One frame is open, of a function of type 3, which has no parameters.
 fn expect_start(rt: &impl Abort, v: &OperatorValidator) {
     let frame = Frame {
@@ -58,14 +63,16 @@ fn expect_start(rt: &impl Abort, v: &OperatorValidator) {
         unreachable: false,
         init_height: 0,
     };
-    expect_same(rt, v.get_frame(0), Some(&frame));
-    expect_same(rt, v.get_frame(1), None);
-    expect_same(rt, v.peek_operand_at(0), None);
-    let label = Some((BlockType::FuncType(3), FrameKind::Block));
-    expect_same(rt, v.jump(0), label);
-    expect_same(rt, v.jump(1), None);
-    expect_same(rt, v.locals().len_locals(), 0);
-    expect_same(rt, v.features(), WasmFeatures::all());
+    expect(
+        rt,
+        v.get_frame(0) == Some(&frame) && v.get_frame(1).is_none(),
+    );
+    expect(rt, v.peek_operand_at(0).is_none() && v.jump(1).is_none());
+    expect_label(rt, v, BlockType::FuncType(3));
+    expect(
+        rt,
+        v.locals().len_locals() == 0 && v.features() == WasmFeatures::all(),
+    );
     expect(rt, !v.is_pending() && v.can_attempt());
 }
 
@@ -97,7 +104,7 @@ fn declare_to_the_limit<R: WasmModuleResources>(
     ample(rt, v.define_locals(1, 0, ValType::I32, lists))?;
     ample(rt, v.define_locals(2, 50_000, ValType::I32, lists))?;
     expect_error(rt, v.define_locals(3, 1, ValType::I32, lists), OVER, 3)?;
-    expect_same(rt, v.locals().len_locals(), 50_000);
+    expect(rt, v.locals().len_locals() == 50_000);
     Ok(())
 }
 
@@ -154,9 +161,11 @@ fn expect_seven<R: WasmModuleResources>(
         Ok(is_closed) => expect(rt, is_closed),
         Err((_, refusal)) => ample(rt, Err(refusal))?,
     }
-    expect_same(rt, heights.as_slice(), [(1, 1), (1, 0)].as_slice());
-    expect_same(rt, v.operand_stack_height(), 1);
-    expect_same(rt, v.control_stack_height(), 0);
+    expect(rt, heights.as_slice() == [(1, 1), (1, 0)].as_slice());
+    expect(
+        rt,
+        v.operand_stack_height() == 1 && v.control_stack_height() == 0,
+    );
     Ok(())
 }
 
@@ -203,6 +212,23 @@ fn worked_examples_in_used_buffers(rt: HostRuntime) -> Result<(), AllocError> {
 
 /// Where memory is wanting there are no locals, and the same call declares them once there is memory: which is said, for
 /// `.ci/growths.c`.
+fn expect_the_same_call<R: WasmModuleResources>(
+    rt: &(impl Abort + Print),
+    v: &mut OperatorValidator,
+    lists: &R,
+) -> Result<(), AllocError>
+    requires { IsStarting (R.context lists.now) (state v.old) }
+{
+    let first = v.define_locals(0, 60, ValType::I64, lists);
+    if first.is_err() {
+        expect(rt, v.locals().len_locals() == 0);
+        let _ = println!(rt; "there is memory again");
+        ample(rt, v.define_locals(0, 60, ValType::I64, lists))?;
+    }
+    expect(rt, v.locals().len_locals() == 60);
+    ample(rt, first)
+}
+
 #[test]
 fn locals_that_found_no_memory_are_declared_by_the_same_call(
     rt: HostRuntime,
@@ -210,39 +236,24 @@ fn locals_that_found_no_memory_are_declared_by_the_same_call(
     let lists = lists_of(&rt, "type func ->")?;
     let allocs = OperatorValidatorAllocations::new(rt.alloc());
     let mut v = ample(&rt, validator(&lists, allocs))?;
-    let first = v.define_locals(0, 60, ValType::I64, &lists);
-    if first.is_err() {
-        expect_same(&rt, v.locals().len_locals(), 0);
-        let _ = println!(rt; "there is memory again");
-        ample(&rt, v.define_locals(0, 60, ValType::I64, &lists))?;
-    }
-    expect_same(&rt, v.locals().len_locals(), 60);
-    ample(&rt, first)
+    expect_the_same_call(&rt, &mut v, &lists)
 }
 
 /// The calls that begin a body in the buffers of the one before, which leaves nothing.
-fn expect_begun_anew(
+fn expect_begun_anew<R: WasmModuleResources>(
     rt: &impl Abort,
     v: &mut OperatorValidator,
-    lists: &ModuleLists,
+    lists: &R,
 ) -> Result<(), AllocError> {
     let features = WasmFeatures::all();
     ample(rt, v.start_func(0, 1, &features, lists))?;
-    expect_same(rt, v.locals().get(0), Some(ValType::I32));
+    expect(rt, v.locals().get(0) == Some(ValType::I32));
     ample(rt, v.start_const_expr(&features, ValType::F32))?;
-    expect_same(rt, v.locals().len_locals(), 0);
-    expect_same(
-        rt,
-        v.jump(0),
-        Some((BlockType::Val(ValType::F32), FrameKind::Block)),
-    );
+    expect(rt, v.locals().len_locals() == 0);
+    expect_label(rt, v, BlockType::Val(ValType::F32));
     ample(rt, v.start_body(lists, &features, BodyKind::Function(0), 2))?;
-    expect_same(
-        rt,
-        v.jump(0),
-        Some((BlockType::FuncType(0), FrameKind::Block)),
-    );
-    expect_same(rt, v.control_stack_height(), 1);
+    expect_label(rt, v, BlockType::FuncType(0));
+    expect(rt, v.control_stack_height() == 1);
     let unknown = "unknown type: type index out of bounds";
     expect_error(rt, v.start_func(1, 3, &features, lists), unknown, 3)
 }

@@ -1,1 +1,2 @@
+pub mod Equal
 pub mod Signatures

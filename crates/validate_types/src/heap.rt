@@ -9,7 +9,7 @@ ghost use Rattle.validate_types.specs.Heap.{module_index, id_of, packed_index};
 use std::marker::Model;
 
 /// An abstract heap type (wasmparser's `AbstractHeapType`).
-#[derive(Clone, Copy, Debug, PartialEq, Eq)]
+#[derive(Clone, Copy, Debug, PartialEq, Eq, PartialOrd, Ord)]
 pub enum AbstractHeapType {
     /// `func`: every function.
     Func,
@@ -129,7 +129,7 @@ impl AbstractHeapType {
 }
 
 /// A type of the module, as the lookup knows it (wasmparser's `CoreTypeId`).
-#[derive(Clone, Copy, Debug, PartialEq, Eq)]
+#[derive(Clone, Copy, Debug, PartialEq, Eq, PartialOrd, Ord)]
 pub struct CoreTypeId {
     /// The number of the type.
     pub index: u32,
@@ -153,7 +153,7 @@ impl CoreTypeId {
 
 /// What names a type in a heap type: its index in the module, or, where the type is canonical, its id
 /// (wasmparser's `UnpackedIndex`).
-#[derive(Clone, Copy, Debug, PartialEq, Eq)]
+#[derive(Clone, Copy, Debug, PartialEq, Eq, PartialOrd, Ord)]
 pub enum UnpackedIndex {
     /// The index of a type in its module.
     Module(u32),
@@ -200,7 +200,7 @@ impl UnpackedIndex {
 
 /// An index that a reference packs, below [`PackedIndex::LIMIT`] (wasmparser's `PackedIndex`). Contracts
 /// see the index.
-#[derive(Clone, Copy, Debug, PartialEq, Eq)]
+#[derive(Clone, Copy, Debug, PartialEq, Eq, PartialOrd, Ord)]
 pub struct PackedIndex {
     index: UnpackedIndex,
 }
@@ -236,7 +236,7 @@ impl PackedIndex {
 
 /// What a reference points to (wasmparser's `HeapType`): an abstract type, or a type of the module, with those
 /// declared below it or without.
-#[derive(Clone, Copy, Debug, PartialEq, Eq)]
+#[derive(Clone, Copy, Debug, PartialEq, Eq, PartialOrd, Ord)]
 pub enum HeapType {
     /// An abstract type, or the shared copy of it.
     Abstract {

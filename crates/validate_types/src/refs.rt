@@ -9,7 +9,7 @@ use crate::heap::{AbstractHeapType, HeapType, PackedIndex, UnpackedIndex};
 
 /// A reference type (wasmparser's `RefType`). One that [`RefType::new`] makes has no type index of
 /// [`PackedIndex::LIMIT`] or more.
-#[derive(Clone, Copy, Debug, PartialEq, Eq)]
+#[derive(Clone, Copy, Debug, PartialEq, Eq, PartialOrd, Ord)]
 pub struct RefType {
     /// Whether null is one of its values.
     pub nullable: bool,

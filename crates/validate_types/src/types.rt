@@ -6,10 +6,11 @@ ghost use Rattle.validate_types.specs.declared.types.CompositeInnerType.TheVaria
 
 use crate::heap::{AbstractHeapType, PackedIndex};
 use crate::refs::RefType;
+use std::cmp::Ordering;
 use std::marker::Model;
 
 /// The type of a value (wasmparser's `ValType`): a number type, the vector type or a reference type.
-#[derive(Clone, Copy, Debug, PartialEq, Eq)]
+#[derive(Clone, Copy, Debug, PartialEq, Eq, PartialOrd, Ord)]
 pub enum ValType {
     /// `i32`
     I32,
@@ -144,9 +145,90 @@ impl FuncType {
     }
 }
 
+impl PartialEq for FuncType {
+    ghost use Rattle.std.specs.Cmp.{and_per, on_per};
+    ghost use Rattle.std.specs.Cmp.Lexicographic.{pointwise, lists_per};
+    ghost use Rattle.std.specs.Ordering.{eq_of_both, on};
+    ghost use Rattle.validate_types.specs.contracts.types.ValTypePartialEq.TheImpl as value_eq;
+    ghost use Rattle.validate_types.specs.contracts.types.ValTypePartialEq.TheImpl.Laws.{laws-law};
+
+    ghost eq = { eq_of_both (on (λ f. f.params) (pointwise (value_eq.ghosts).eq))
+        (on (λ f. f.results) (pointwise (value_eq.ghosts).eq)) };
+
+    ghost laws = { and_per (on_per (λ f. f.params) (lists_per laws-law))
+        (on_per (λ f. f.results) (lists_per laws-law)) };
+
+    fn eq(&self, other: &FuncType) -> bool {
+        self.params == other.params && self.results == other.results
+    }
+}
+
+impl Eq for FuncType {
+    ghost use Rattle.std.specs.Cmp.{and_equiv, on_equiv};
+    ghost use Rattle.std.specs.Cmp.Lexicographic.{lists_equiv};
+    ghost use Rattle.validate_types.specs.contracts.types.ValTypeEq.TheImpl.Laws.{laws-law};
+
+    ghost laws = { and_equiv (on_equiv (λ f. f.params) (lists_equiv laws-law))
+        (on_equiv (λ f. f.results) (lists_equiv laws-law)) };
+}
+
+impl PartialOrd for FuncType {
+    ghost use Rattle.std.specs.Prelude.{refl};
+    ghost use Rattle.std.specs.Cmp.{both_tied, on_total, partial_order_from_agreeing_total, then_total};
+    ghost use Rattle.std.specs.Cmp.Lexicographic.{slice_cmp, lists_ties, lists_total};
+    ghost use Rattle.std.specs.Ordering.{as_partial_cmp, on, then_cmp};
+    ghost use Rattle.validate_types.specs.contracts.types.ValTypeOrd.TheImpl as value_ord;
+    ghost use Rattle.validate_types.specs.contracts.types.ValTypeOrd.TheImpl.Laws.{total-law, matches_eq-law};
+
+    ghost partial_cmp = { as_partial_cmp (then_cmp (on (λ f. f.params) (slice_cmp (value_ord.ghosts).cmp))
+        (on (λ f. f.results) (slice_cmp (value_ord.ghosts).cmp))) };
+
+    ghost laws = { partial_order_from_agreeing_total
+        (then_cmp (on (λ f. f.params) (slice_cmp (value_ord.ghosts).cmp))
+        (on (λ f. f.results) (slice_cmp (value_ord.ghosts).cmp)))
+        (then_total (on_total (λ f. f.params) (lists_total total-law))
+        (on_total (λ f. f.results) (lists_total total-law)))
+        (λ f g. refl)
+        (λ f g. both_tied _ _ _ _ (lists_ties (value_ord.ghosts).cmp matches_eq-law f.params g.params)
+        (lists_ties (value_ord.ghosts).cmp matches_eq-law f.results g.results)) };
+
+    fn partial_cmp(&self, other: &FuncType) -> Option<Ordering> {
+        Some(self.cmp(other))
+    }
+}
+
+/// By the parameters, and then by the results.
+impl Ord for FuncType {
+    ghost use Rattle.std.specs.Prelude.{refl};
+    ghost use Rattle.std.specs.Cmp.{both_tied, on_total, then_total};
+    ghost use Rattle.std.specs.Cmp.Lexicographic.{slice_cmp, lists_ties, lists_total};
+    ghost use Rattle.std.specs.Ordering.{on, then_cmp};
+    ghost use Rattle.validate_types.specs.contracts.types.ValTypeOrd.TheImpl as value_ord;
+    ghost use Rattle.validate_types.specs.contracts.types.ValTypeOrd.TheImpl.Laws.{total-law, matches_eq-law};
+
+    ghost cmp = { then_cmp (on (λ f. f.params) (slice_cmp (value_ord.ghosts).cmp))
+        (on (λ f. f.results) (slice_cmp (value_ord.ghosts).cmp)) };
+
+    ghost total = { then_total (on_total (λ f. f.params) (lists_total total-law))
+        (on_total (λ f. f.results) (lists_total total-law)) };
+
+    ghost matches_partial_cmp = { λ f g. refl };
+
+    ghost matches_eq = { λ f g. both_tied _ _ _ _
+        (lists_ties (value_ord.ghosts).cmp matches_eq-law f.params g.params)
+        (lists_ties (value_ord.ghosts).cmp matches_eq-law f.results g.results) };
+
+    fn cmp(&self, other: &FuncType) -> Ordering {
+        match self.params.cmp(&other.params) {
+            Ordering::Equal => self.results.cmp(&other.results),
+            unequal => unequal,
+        }
+    }
+}
+
 /// What a field holds (wasmparser's `StorageType`; WebAssembly core specification, "Composite Types":
 /// storage types).
-#[derive(Clone, Copy, Debug, PartialEq, Eq)]
+#[derive(Clone, Copy, Debug, PartialEq, Eq, PartialOrd, Ord)]
 pub enum StorageType {
     /// `i8`: an integer packed into 8 bits.
     I8,
@@ -180,7 +262,7 @@ impl StorageType {
 
 /// A field of a struct, or what an array has in each place (wasmparser's `FieldType`; WebAssembly core
 /// specification, "Composite Types": field types).
-#[derive(Clone, Copy, Debug, PartialEq, Eq)]
+#[derive(Clone, Copy, Debug, PartialEq, Eq, PartialOrd, Ord)]
 pub struct FieldType {
     /// What it holds.
     pub element_type: StorageType,
@@ -190,7 +272,7 @@ pub struct FieldType {
 
 /// The type of an array (wasmparser's `ArrayType`; WebAssembly core specification, "Composite Types"):
 /// that of each of its places.
-#[derive(Clone, Copy, Debug, PartialEq, Eq)]
+#[derive(Clone, Copy, Debug, PartialEq, Eq, PartialOrd, Ord)]
 pub struct ArrayType(pub FieldType);
 
 /// The type of a struct (wasmparser's `StructType`; WebAssembly core specification, "Composite Types").
@@ -210,14 +292,72 @@ impl Model for StructType {
     ghost view = { λ s. s.fields.items };
 }
 
+impl PartialEq for StructType {
+    ghost use Rattle.std.specs.Cmp.Lexicographic.{pointwise, lists_per};
+    ghost use Rattle.validate_types.specs.contracts.types.FieldTypePartialEq.TheImpl as field_eq;
+    ghost use Rattle.validate_types.specs.contracts.types.FieldTypePartialEq.TheImpl.Laws.{laws-law};
+
+    ghost eq = { pointwise (field_eq.ghosts).eq };
+
+    ghost laws = { lists_per laws-law };
+
+    fn eq(&self, other: &StructType) -> bool {
+        self.fields == other.fields
+    }
+}
+
+impl Eq for StructType {
+    ghost use Rattle.std.specs.Cmp.Lexicographic.{lists_equiv};
+    ghost use Rattle.validate_types.specs.contracts.types.FieldTypeEq.TheImpl.Laws.{laws-law};
+
+    ghost laws = { lists_equiv laws-law };
+}
+
+impl PartialOrd for StructType {
+    ghost use Rattle.std.specs.Prelude.{refl};
+    ghost use Rattle.std.specs.Cmp.{partial_order_from_agreeing_total};
+    ghost use Rattle.std.specs.Cmp.Lexicographic.{slice_cmp, lists_ties, lists_total};
+    ghost use Rattle.std.specs.Ordering.{as_partial_cmp};
+    ghost use Rattle.validate_types.specs.contracts.types.FieldTypeOrd.TheImpl as field_ord;
+    ghost use Rattle.validate_types.specs.contracts.types.FieldTypeOrd.TheImpl.Laws.{total-law, matches_eq-law};
+
+    ghost partial_cmp = { as_partial_cmp (slice_cmp (field_ord.ghosts).cmp) };
+
+    ghost laws = { partial_order_from_agreeing_total (slice_cmp (field_ord.ghosts).cmp) (lists_total total-law)
+        (λ s t. refl) (lists_ties (field_ord.ghosts).cmp matches_eq-law) };
+
+    fn partial_cmp(&self, other: &StructType) -> Option<Ordering> {
+        Some(self.cmp(other))
+    }
+}
+
+impl Ord for StructType {
+    ghost use Rattle.std.specs.Prelude.{refl};
+    ghost use Rattle.std.specs.Cmp.Lexicographic.{slice_cmp, lists_ties, lists_total};
+    ghost use Rattle.validate_types.specs.contracts.types.FieldTypeOrd.TheImpl as field_ord;
+    ghost use Rattle.validate_types.specs.contracts.types.FieldTypeOrd.TheImpl.Laws.{total-law, matches_eq-law};
+
+    ghost cmp = { slice_cmp (field_ord.ghosts).cmp };
+
+    ghost total = { lists_total total-law };
+
+    ghost matches_partial_cmp = { λ s t. refl };
+
+    ghost matches_eq = { lists_ties (field_ord.ghosts).cmp matches_eq-law };
+
+    fn cmp(&self, other: &StructType) -> Ordering {
+        self.fields.cmp(&other.fields)
+    }
+}
+
 /// The type of a continuation (wasmparser's `ContType`; a proposal, "Stack Switching": continuation types):
 /// the index of the function type of what it has still to run.
-#[derive(Clone, Copy, Debug, PartialEq, Eq)]
+#[derive(Clone, Copy, Debug, PartialEq, Eq, PartialOrd, Ord)]
 pub struct ContType(pub PackedIndex);
 
 /// What a type is made of (wasmparser's `CompositeInnerType`; WebAssembly core specification, "Composite
 /// Types", and the proposal "Stack Switching" for continuations).
-#[derive(Debug, Drop)]
+#[derive(Debug, PartialEq, Eq, PartialOrd, Ord, Drop)]
 pub enum CompositeInnerType {
     /// A function type.
     Func(FuncType),
@@ -231,7 +371,7 @@ pub enum CompositeInnerType {
 
 /// What a type is made of, its mark as shared, and its place among descriptors (a proposal, "Custom
 /// Descriptors": composite types).
-#[derive(Debug, Drop)]
+#[derive(Debug, PartialEq, Eq, PartialOrd, Ord, Drop)]
 pub struct CompositeType {
     /// What it is made of.
     pub inner: CompositeInnerType,
@@ -245,7 +385,7 @@ pub struct CompositeType {
 }
 
 /// A type as a module declares it (wasmparser's `SubType`).
-#[derive(Debug, Drop)]
+#[derive(Debug, PartialEq, Eq, PartialOrd, Ord, Drop)]
 pub struct SubType {
     /// Whether no type may be declared below it. Nothing here looks at it: it is for the module validator.
     pub is_final: bool,

@@ -1,112 +1,149 @@
 //! Lines as JSON (RFC 8259): each is an object.
 
 use crate::lines::{Counts, Finding, Summary};
-use crate::outcome::Outcome;
-use module_check::{Item, Verdict};
-use std::io::Write;
-use std::{fmt, io};
+use crate::operators::RefusedOperator;
+use crate::written::Written;
+use module_check::{Item, Outcome, Verdict};
+use std::str::Utf8Chunk;
 use validate_types::Error;
 
-/// A text as a string of JSON.
-#[derive(Clone, Copy)]
-struct Quoted<'t>(&'t str);
-
-/// Writes a character of a string: a quotation mark, a reverse solidus and control characters are escaped.
-fn write_escaped<W: fmt::Write>(f: &mut fmt::Formatter<W>, c: char) -> fmt::Result {
+/// Adds a character of a string: a quotation mark, a reverse solidus and control characters are escaped.
+fn add_escaped(out: &mut Written, c: char) {
     match c {
-        '"' => f.write_str("\\\""),
-        '\\' => f.write_str("\\\\"),
-        '\n' => f.write_str("\\n"),
-        '\r' => f.write_str("\\r"),
-        '\t' => f.write_str("\\t"),
-        '\0'..='\u{1f}' => write!(f, "\\u{:04x}", c as u32),
-        _ => f.write_char(c),
-    }
-}
-
-impl fmt::Display for Quoted<'_> {
-    fn fmt<W: fmt::Write>(&self, f: &mut fmt::Formatter<W>) -> fmt::Result {
-        f.write_char('"')?;
-        for c in self.0.chars() {
-            write_escaped(f, c)?;
+        '"' => out.add("\\\""),
+        '\\' => out.add("\\\\"),
+        '\n' => out.add("\\n"),
+        '\r' => out.add("\\r"),
+        '\t' => out.add("\\t"),
+        '\0'..='\u{1f}' => {
+            out.add("\\u");
+            out.add_hexadecimal(u64::from(c as u32), 4);
         }
-        f.write_char('"')
+        _ => out.add_letter(c),
     }
 }
 
-/// Writes one more member of an object, whose value is a string.
-fn write_string<W: Write>(out: &mut W, name: &str, value: &str) -> io::Result<()> {
-    write!(out, ",\"{name}\":{}", Quoted(value))
+/// Adds a text as a string.
+pub fn add_quoted(out: &mut Written, text: &str) {
+    out.add("\"");
+    for c in text.chars() {
+        add_escaped(out, c);
+    }
+    out.add("\"");
 }
 
-/// Writes one more member of an object, whose value is a number.
-fn write_number<W: Write>(out: &mut W, name: &str, value: u64) -> io::Result<()> {
-    write!(out, ",\"{name}\":{value}")
+/// Adds a part of a word.
+fn add_part(out: &mut Written, part: &Utf8Chunk<'_>) {
+    for c in part.valid().chars() {
+        add_escaped(out, c);
+    }
+    for byte in part.invalid() {
+        out.add("\\\\x");
+        out.add_hexadecimal(u64::from(*byte), 2);
+    }
+}
+
+/// Adds a word of the command line as a string, with an escape as in Rust for each byte that isn't UTF-8.
+fn add_quoted_word(out: &mut Written, word: &[u8]) {
+    out.add("\"");
+    for part in word.utf8_chunks() {
+        add_part(out, &part);
+    }
+    out.add("\"");
+}
+
+/// Begins one more member of an object.
+pub fn begin_member(out: &mut Written, name: &str) {
+    out.add(",\"");
+    out.add(name);
+    out.add("\":");
+}
+
+/// Adds one more member of an object, whose value is a string.
+pub fn add_string(out: &mut Written, name: &str, value: &str) {
+    begin_member(out, name);
+    add_quoted(out, value);
+}
+
+/// Adds one more member of an object, whose value is a number.
+pub fn add_number(out: &mut Written, name: &str, value: u64) {
+    begin_member(out, name);
+    out.show(value);
 }
 
 /// Begins an object, by the file.
-fn begin<W: Write>(out: &mut W, file: &str) -> io::Result<()> {
-    write!(out, "{{\"file\":{}", Quoted(file))
+fn begin(out: &mut Written, file: &[u8]) {
+    out.add("{\"file\":");
+    add_quoted_word(out, file);
 }
 
-/// Writes what a line is about: which item, and its index.
-fn write_item<W: Write>(out: &mut W, item: Option<Item>) -> io::Result<()> {
+/// Adds what a line is about: which item, and its index.
+fn add_item(out: &mut Written, item: Option<Item>) {
     match item {
         Some(item) => {
-            let (kind, index, part) = item.words();
-            write!(out, ",\"item\":\"{kind}{part}\"")?;
-            write_number(out, "index", u64::from(index))
+            let named = item.named();
+            begin_member(out, "item");
+            out.add("\"");
+            out.add(named.word);
+            out.add(named.part);
+            out.add("\"");
+            add_number(out, "index", u64::from(named.index));
         }
-        None => write_string(out, "item", "module"),
+        None => add_string(out, "item", "module"),
     }
 }
 
-/// Writes where and why something is refused.
-fn write_refusal<W: Write>(
-    out: &mut W,
-    operator: Option<&'static str>,
-    refusal: &Error,
-) -> io::Result<()> {
-    if let Some(name) = operator {
-        write_string(out, "operator", name)?;
+/// Adds where and why something is refused.
+fn add_refusal(out: &mut Written, operator: Option<RefusedOperator>, refusal: &Error) {
+    if let Some(operator) = operator {
+        add_operator(out, operator);
     }
-    write_number(out, "offset", refusal.offset())?;
-    write_string(out, "text", refusal.message())
+    add_number(out, "offset", refusal.offset());
+    add_string(out, "text", refusal.message());
 }
 
-/// Writes the line of an item or of the module.
-pub fn write_finding<W: Write>(out: &mut W, file: &str, finding: &Finding<'_>) -> io::Result<()> {
-    begin(out, file)?;
-    write_item(out, finding.item)?;
+/// Adds which operator is refused.
+fn add_operator(out: &mut Written, operator: RefusedOperator) {
+    add_string(out, "operator", operator.name);
+    if let Some(label) = operator.label {
+        add_number(out, "label", u64::from(label));
+    }
+}
+
+/// Adds the line of an item or of the module.
+pub fn add_finding(out: &mut Written, file: &[u8], finding: &Finding<'_>) {
+    begin(out, file);
+    add_item(out, finding.item);
     if let Some(name) = finding.name {
-        write_string(out, "name", name)?;
+        add_string(out, "name", name);
     }
-    write_string(out, "verdict", Outcome::of(finding.verdict).word())?;
+    add_string(out, "verdict", Outcome::of(finding.verdict).word());
     match finding.verdict {
         Verdict::Refused(refusal) | Verdict::Malformed(refusal) => {
-            write_refusal(out, finding.operator, refusal)?;
+            add_refusal(out, finding.operator, refusal);
         }
-        Verdict::NotCovered(offset) => write_number(out, "offset", *offset)?,
+        Verdict::NotCovered(offset) => add_number(out, "offset", *offset),
         Verdict::Accepted | Verdict::OutOfMemory => {}
     }
-    writeln!(out, "}}")
+    out.add_written(finding.shown);
+    out.add("}\n");
 }
 
-/// Writes how many came to what.
-fn write_counts<W: Write>(out: &mut W, counts: Counts) -> io::Result<()> {
-    write_number(out, "equal_types", counts.equal_types as u64)?;
-    write_number(out, "accepted", counts.accepted)?;
-    write_number(out, "refused", counts.refused)?;
-    write_number(out, "not_covered", counts.not_covered)?;
-    write_number(out, "out_of_memory", counts.wants_memory)
+/// Adds how many came to what.
+fn add_counts(out: &mut Written, counts: Counts) {
+    add_number(out, "equal_types", counts.equal_types as u64);
+    add_number(out, "accepted", counts.accepted);
+    add_number(out, "refused", counts.refused);
+    add_number(out, "not_covered", counts.not_covered);
+    add_number(out, "out_of_memory", counts.out_of_memory);
 }
 
-/// Writes what the module comes to, and how many came to what, where that is asked for.
-pub fn write_summary<W: Write>(out: &mut W, file: &str, summary: &Summary) -> io::Result<()> {
-    begin(out, file)?;
-    write_string(out, "verdict", summary.outcome.word())?;
+/// Adds what the module comes to, and how many came to what, where that is asked for.
+pub fn add_summary(out: &mut Written, file: &[u8], summary: &Summary) {
+    begin(out, file);
+    add_string(out, "verdict", summary.outcome.word());
     if let Some(counts) = summary.counts {
-        write_counts(out, counts)?;
+        add_counts(out, counts);
     }
-    writeln!(out, "}}")
+    out.add("}\n");
 }

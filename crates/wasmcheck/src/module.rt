@@ -1,14 +1,25 @@
 //! The check of one module.
 
-use crate::lines::Lines;
-use crate::operators::{Code, refused_operator};
+ghost use Rattle.std.specs.Prelude.{◌≡◌, IfOk, OnOk};
+ghost use Rattle.module_check.specs.Items.{AreSafeBelow, IsSafeAt, item_count};
+ghost use Rattle.module_check.specs.Loaded.{AreValidModule, IsValid};
+ghost use Rattle.module_check.specs.declared.outcome.Outcome.TheVariants.{Valid};
+
+use crate::explain::{Asked, refusal_of, shown_of};
+use crate::lines::{Finding, Lines};
+use crate::operators::{Code, Trail, trail_to};
 use crate::options::Detail;
-use crate::outcome::Outcome;
-use crate::verdict_writer::{VerdictWriter, write_module};
-use module_check::{BodyBuffers, ConstantExpression, Item, LoadedModule, ModuleFeatures, Verdict};
-use std::alloc::Global;
-use std::io;
+use crate::shown::add_word;
+use crate::verdict_writer::{Tally, write_item, write_module, write_tally};
+use crate::written::Written;
+use module_check::{
+    BodyBuffers, Checked, FunctionNames, Item, LoadedModule, ModuleFeatures, Outcome, Verdict,
+    check_item, item_count,
+};
+use module_rules::expression_type;
 use std::io::{IsTerminal, Write};
+use std::{io, str};
+use validate_visit::BodyKind;
 
 /// After so many bodies it is said how far the check is.
 const MANY: usize = 5_000;
@@ -20,77 +31,221 @@ pub struct CheckOptions<'o> {
     pub lines: Lines<'o>,
     /// How much of it is written.
     pub detail: Detail,
+    /// Whether a refusal is explained.
+    pub explains: bool,
+    /// The name or the index of the function whose operators are listed, if one is named.
+    pub traced: Option<&'o [u8]>,
     /// The proposals that are on.
     pub features: ModuleFeatures,
 }
 
-/// The name of the operator that is refused in a function, if its body is refused for one.
-fn operator_of_function(
-    alloc: Global,
-    module: &LoadedModule<'_>,
-    function: u32,
-    verdict: &Verdict,
-) -> io::Result<Option<&'static str>> {
-    match (verdict, module.code_of(function)) {
-        (Verdict::Refused(refusal), Some(reader)) => {
-            let code = Code {
-                reader,
-                has_locals: true,
-            };
-            refused_operator(alloc, module.bytes(), code, refusal)
-        }
-        _ => Ok(None),
+/// Whether a word is this index.
+fn is_index(word: &[u8], index: u32) -> bool {
+    match str::from_utf8(word) {
+        Ok(text) => text.parse::<u32>() == Ok(index),
+        Err(_) => false,
     }
 }
 
-/// The name of the operator that is refused in a constant expression, if it is refused for one.
-fn operator_of_expression(
-    alloc: Global,
-    module: &LoadedModule<'_>,
-    expression: &ConstantExpression<'_>,
-    verdict: &Verdict,
-) -> io::Result<Option<&'static str>> {
-    match verdict {
-        Verdict::Refused(refusal) => {
-            let code = Code {
-                reader: module.code_of_expression(expression),
-                has_locals: false,
-            };
-            refused_operator(alloc, module.bytes(), code, refusal)
+/// The code of a function, if the module has a body for it.
+fn code_of_function<'m>(module: &'m LoadedModule<'_>, function: u32) -> Option<Code<'m>> {
+    let ty = module.type_of(function)?;
+    let reader = module.code_of(function)?;
+    Some(Code {
+        reader,
+        kind: BodyKind::Function(ty),
+    })
+}
+
+/// The code of the constant expression at this place of the row.
+fn code_of_expression<'m>(module: &'m LoadedModule<'_>, place: usize) -> Option<Code<'m>> {
+    let expression = module.expressions().get(place)?;
+    let ty = expression_type(module.declarations(), expression.place)?;
+    Some(Code {
+        reader: module.code_of_expression(expression),
+        kind: BodyKind::Expression(ty),
+    })
+}
+
+/// A module that was read, as it is checked.
+#[derive(Drop)]
+struct ModuleCheck<'o, 'm, 'b> {
+    options: CheckOptions<'o>,
+    module: &'m LoadedModule<'b>,
+    names: FunctionNames<'b>,
+}
+
+/// How far the check of a module is.
+#[derive(Drop)]
+struct Progress {
+    buffers: BodyBuffers,
+    tally: Tally,
+    /// Whether a function has the name or the index that is asked for.
+    has_traced: bool,
+}
+
+impl<'m> ModuleCheck<'_, 'm, '_> {
+    /// The code of the item at this place of the row.
+    fn code_at(&self, place: usize, item: Item) -> Option<Code<'m>> {
+        match item {
+            Item::Function(function) => code_of_function(self.module, function),
+            Item::Expression(_) => code_of_expression(self.module, place),
         }
-        _ => Ok(None),
+    }
+
+    /// The name of the function that an item is, where it has one.
+    fn name_of(&self, item: Item) -> Option<&str> {
+        match item {
+            Item::Function(function) => self.names.of(function),
+            Item::Expression(_) => None,
+        }
+    }
+
+    /// Whether a word is the name or the index of the function that an item is.
+    fn is_named(&self, item: Item, word: &[u8]) -> bool {
+        if let Some(name) = self.name_of(item) {
+            if name.as_bytes() == word {
+                return true;
+            }
+        }
+        match item {
+            Item::Function(function) => is_index(word, function),
+            Item::Expression(_) => false,
+        }
+    }
+
+    /// Whether the operators of an item are listed.
+    fn is_traced(&self, item: Item) -> bool {
+        match self.options.traced {
+            Some(word) => self.is_named(item, word),
+            None => false,
+        }
+    }
+
+    /// What is found as the code of an item is read up to its refusal, if there is one.
+    fn trail(&self, place: usize, checked: &Checked) -> io::Result<Trail> {
+        let Some(refusal) = refusal_of(&checked.verdict) else {
+            return Ok(Trail::NONE);
+        };
+        match self.code_at(place, checked.item) {
+            Some(mut code) => {
+                trail_to(
+                    self.options.lines.alloc,
+                    self.module.bytes(),
+                    &mut code,
+                    refusal,
+                )
+            }
+            None => Ok(Trail::NONE),
+        }
+    }
+
+    /// What is shown of the operators of an item.
+    fn shown(&self, place: usize, item: Item, asked: Asked<'_>) -> io::Result<Written> {
+        match self.code_at(place, item) {
+            Some(code) if asked.is_anything() => shown_of(self.module, code, asked),
+            _ => Ok(Written::new(asked.lines.alloc)),
+        }
+    }
+
+    /// Writes what was found of the item at this place of the row.
+    fn write<W: Write>(
+        &self,
+        out: &mut W,
+        place: usize,
+        checked: &Checked,
+        is_traced: bool,
+    ) -> io::Result<()> {
+        let CheckOptions {
+            lines,
+            detail,
+            explains,
+            ..
+        } = self.options;
+        let trail = self.trail(place, checked)?;
+        let asked = Asked {
+            lines,
+            is_traced,
+            is_explained: explains,
+            trail,
+            verdict: &checked.verdict,
+        };
+        let shown = self.shown(place, checked.item, asked)?;
+        let name = self.name_of(checked.item);
+        let finding = Finding {
+            item: Some(checked.item),
+            name,
+            operator: trail.operator,
+            verdict: &checked.verdict,
+            shown: &shown,
+        };
+        write_item(out, lines, detail, &finding)
+    }
+
+    /// Checks the item at this place of the row, and writes what it comes to.
+    fn check_item<W: Write>(
+        &self,
+        out: &mut W,
+        place: usize,
+        progress: &mut Progress,
+    ) -> io::Result<()>
+        ensures { OnOk result (progress.new.tally.outcome ≡ Valid → (progress.old.tally.outcome ≡ Valid)
+            × IsSafeAt self.now.module.now place) }
+    {
+        let checked = check_item(self.module, place, &mut progress.buffers);
+        progress.tally.count(&checked.verdict);
+        let is_traced = self.is_traced(checked.item);
+        if is_traced {
+            progress.has_traced = true;
+        }
+        self.write(out, place, &checked, is_traced)
+    }
+
+    /// Checks each item.
+    fn check_items<W: Write>(
+        &self,
+        rt: &HostRuntime,
+        out: &mut W,
+        progress: &mut Progress,
+    ) -> io::Result<()>
+        ensures { OnOk result (progress.new.tally.outcome ≡ Valid
+            → AreSafeBelow self.now.module.now (item_count self.now.module.now)) }
+    {
+        let all = item_count(self.module);
+        let bodies = self.module.body_count();
+        let first = all.saturating_sub(bodies);
+        for place in 0..all {
+            write_progress(rt, place.saturating_sub(first), bodies);
+            self.check_item(out, place, progress)?;
+        }
+        Ok(())
+    }
+
+    /// Says that no function has the name or the index that is asked for, if so, and answers what that comes to.
+    fn traced_outcome(&self, rt: &HostRuntime, has_traced: bool) -> io::Result<Outcome> {
+        match self.options.traced {
+            Some(word) if !has_traced => {
+                let mut message = begun_message(self.options.lines);
+                message.add("--trace: no function with a body is ");
+                add_word(&mut message, word);
+                message.add("\n");
+                message.write_to(&mut rt.stderr())?;
+                Ok(Outcome::Malformed)
+            }
+            _ => Ok(Outcome::Valid),
+        }
     }
 }
 
-/// Checks a constant expression.
-fn check_expression<W: Write>(
-    alloc: Global,
-    out: &mut W,
-    lines: Lines<'_>,
-    module: &LoadedModule<'_>,
-    expression: &ConstantExpression<'_>,
-    buffers: &mut BodyBuffers,
-    writer: &mut VerdictWriter<'_>,
-) -> io::Result<()> {
-    let verdict = module.check_expression(expression, buffers);
-    let operator = operator_of_expression(alloc, module, expression, &verdict)?;
-    let item = Item::Expression(expression.place);
-    writer.write_item(out, lines, item, operator, &verdict)
-}
-
-/// Checks the body of a function.
-fn check_function<W: Write>(
-    alloc: Global,
-    out: &mut W,
-    lines: Lines<'_>,
-    module: &LoadedModule<'_>,
-    function: u32,
-    buffers: &mut BodyBuffers,
-    writer: &mut VerdictWriter<'_>,
-) -> io::Result<()> {
-    let verdict = module.check_function(function, buffers);
-    let operator = operator_of_function(alloc, module, function, &verdict)?;
-    writer.write_item(out, lines, Item::Function(function), operator, &verdict)
+/// A message for standard error as it begins, by the file where it is one of several.
+pub fn begun_message(lines: Lines<'_>) -> Written {
+    let mut message = Written::new(lines.alloc);
+    message.add("wasmcheck: ");
+    if let Some(file) = lines.prefix() {
+        add_word(&mut message, file);
+        message.add(": ");
+    }
+    message
 }
 
 /// Says how far the check of many bodies is, where standard error is a terminal.
@@ -103,75 +258,69 @@ fn write_progress(rt: &HostRuntime, done: usize, all: usize) {
     }
 }
 
-/// Checks each constant expression, and each body.
-fn check_items<W: Write>(
+/// Checks a module that was read, and writes and answers what it comes to.
+fn check_named<W: Write>(
     rt: &HostRuntime,
     out: &mut W,
-    lines: Lines<'_>,
-    module: &LoadedModule<'_>,
-    buffers: &mut BodyBuffers,
-    writer: &mut VerdictWriter<'_>,
-) -> io::Result<()> {
-    for expression in module.expressions() {
-        check_expression(rt.alloc(), out, lines, module, expression, buffers, writer)?;
-    }
-    check_bodies(rt, out, lines, module, buffers, writer)
+    check: &ModuleCheck<'_, '_, '_>,
+    progress: &mut Progress,
+) -> io::Result<Outcome>
+    ensures { IfOk result (λ outcome. outcome ≡ Valid → IsValid check.now.module.now) }
+{
+    check.check_items(rt, out, progress)?;
+    write_tally(
+        out,
+        check.options.lines,
+        check.options.detail,
+        progress.tally,
+    )?;
+    let traced = check.traced_outcome(rt, progress.has_traced)?;
+    Ok(progress.tally.outcome.or(traced))
 }
 
-/// Checks each body.
-fn check_bodies<W: Write>(
-    rt: &HostRuntime,
-    out: &mut W,
-    lines: Lines<'_>,
-    module: &LoadedModule<'_>,
-    buffers: &mut BodyBuffers,
-    writer: &mut VerdictWriter<'_>,
-) -> io::Result<()> {
-    let all = module.body_count();
-    for index in 0..all {
-        write_progress(rt, index, all);
-        let function = module.function_of(index);
-        check_function(rt.alloc(), out, lines, module, function, buffers, writer)?;
-    }
-    Ok(())
-}
-
-/// Checks all of them, in new buffers.
-fn check_all<W: Write>(
-    rt: &HostRuntime,
-    out: &mut W,
-    lines: Lines<'_>,
-    module: &LoadedModule<'_>,
-    writer: &mut VerdictWriter<'_>,
-) -> io::Result<()> {
-    let mut buffers = BodyBuffers::new(rt.alloc());
-    check_items(rt, out, lines, module, &mut buffers, writer)
-}
-
-/// Checks a module that was read.
+/// Checks a module that was read, with the names of its functions.
 fn check_module<W: Write>(
     rt: &HostRuntime,
     out: &mut W,
     options: CheckOptions<'_>,
     module: &LoadedModule<'_>,
-) -> io::Result<Outcome> {
+) -> io::Result<Outcome>
+    ensures { IfOk result (λ outcome. outcome ≡ Valid → IsValid module.now) }
+{
     let Ok(names) = module.names(rt.alloc()) else {
-        return write_module(out, options.lines, options.detail, &Verdict::OutOfMemory);
+        let refused = write_module(out, options.lines, options.detail, &Verdict::OutOfMemory)?;
+        return Ok(refused);
     };
-    let mut writer = VerdictWriter::new(names, options.detail, module.merged());
-    check_all(rt, out, options.lines, module, &mut writer)?;
-    writer.end(out, options.lines)
+    let check = ModuleCheck {
+        options,
+        module,
+        names,
+    };
+    let mut progress = Progress {
+        buffers: BodyBuffers::new(rt.alloc()),
+        tally: Tally::new(module.merged()),
+        has_traced: false,
+    };
+    check_named(rt, out, &check, &mut progress)
 }
 
-/// Checks the module of these bytes, and writes and answers what it comes to.
+/// Checks the module of these bytes, and writes and answers what it comes to: that it is valid, only if it is.
 pub fn check_bytes<W: Write>(
     rt: &HostRuntime,
     out: &mut W,
     options: CheckOptions<'_>,
     bytes: &[u8],
-) -> io::Result<Outcome> {
+) -> io::Result<Outcome>
+    ensures { IfOk result (λ outcome. outcome ≡ Valid → AreValidModule options.entry.features bytes.now) }
+{
     match LoadedModule::new(rt.alloc(), bytes, options.features) {
-        Ok(module) => check_module(rt, out, options, &module),
-        Err(verdict) => write_module(out, options.lines, options.detail, &verdict),
+        Ok(module) => {
+            let outcome = check_module(rt, out, options, &module)?;
+            Ok(outcome)
+        }
+        Err(verdict) => {
+            let refused = write_module(out, options.lines, options.detail, &verdict)?;
+            Ok(refused)
+        }
     }
 }

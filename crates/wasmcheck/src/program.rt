@@ -1,13 +1,17 @@
 //! The run of the program.
 
+use crate::input::read_file;
 use crate::lines::Lines;
-use crate::module::{CheckOptions, check_bytes};
+use crate::module::{CheckOptions, begun_message, check_bytes};
 use crate::options::{Action, Detail, Options, read_options};
-use crate::outcome::Outcome;
-use crate::usage::{UsageError, write_help, write_version};
+use crate::shown::add_word;
+use crate::usage::{UsageError, add_error, write_help, write_version};
 use crate::verdict_writer::write_summary;
+use crate::written::Written;
+use module_check::Outcome;
+use std::alloc::Global;
+use std::io;
 use std::io::{BufWriter, Read, Write};
-use std::{fs, io};
 
 /// The status of a run that says how the program is used.
 const SUCCESS: u8 = 0;
@@ -16,7 +20,7 @@ const SUCCESS: u8 = 0;
 const USAGE_ERROR: u8 = 2;
 
 /// What stands for standard input among the files.
-const STANDARD_INPUT: &str = "-";
+const STANDARD_INPUT: &[u8] = b"-";
 
 /// What to say of bytes that don't begin as a module does, if anything.
 fn warning_of(input: &[u8]) -> Option<&'static str> {
@@ -29,23 +33,15 @@ fn warning_of(input: &[u8]) -> Option<&'static str> {
     }
 }
 
-/// Begins a message on standard error, by the file where it is one of several.
-fn begin_message<W: Write>(err: &mut W, lines: Lines<'_>) -> io::Result<()> {
-    write!(err, "wasmcheck: ")?;
-    match lines.prefix() {
-        Some(file) => write!(err, "{file}: "),
-        None => Ok(()),
-    }
-}
-
 /// Says of bytes that aren't a module's what they look like.
 fn write_warning(rt: &HostRuntime, options: CheckOptions<'_>, input: &[u8]) -> io::Result<()> {
     match (options.detail, warning_of(input)) {
         (Detail::Quiet, _) | (_, None) => Ok(()),
         (_, Some(text)) => {
-            let mut err = rt.stderr();
-            begin_message(&mut err, options.lines)?;
-            writeln!(err, "{text}")
+            let mut message = begun_message(options.lines);
+            message.add(text);
+            message.add("\n");
+            message.write_to(&mut rt.stderr())
         }
     }
 }
@@ -61,26 +57,26 @@ fn check_input<W: Write>(
     check_bytes(rt, out, options, input)
 }
 
-/// Says that a file can't be read, and why. It hands on want of memory.
+/// Says that this file can't be read, and why.
+fn write_read_error(rt: &HostRuntime, file: &[u8], error: &io::Error) -> io::Result<()> {
+    let mut message = Written::new(rt.alloc());
+    message.add("wasmcheck: ");
+    add_word(&mut message, file);
+    message.write_to(&mut rt.stderr())?;
+    writeln!(rt.stderr(), ": {error}")
+}
+
+/// Says that a file can't be read, and what that comes to.
 fn write_unreadable<W: Write>(
     rt: &HostRuntime,
     out: &mut W,
     options: CheckOptions<'_>,
-    error: io::Error,
+    error: &io::Error,
 ) -> io::Result<Outcome> {
-    if error.kind() == io::ErrorKind::OutOfMemory {
-        return Err(error);
-    }
-    let mut err = rt.stderr();
-    writeln!(err, "wasmcheck: {}: {error}", options.lines.file)?;
-    write_summary(
-        out,
-        options.lines,
-        options.detail,
-        Outcome::Unreadable,
-        None,
-    )?;
-    Ok(Outcome::Unreadable)
+    write_read_error(rt, options.lines.file, error)?;
+    let outcome = Outcome::Unreadable;
+    write_summary(out, options.lines, options.detail, outcome, None)?;
+    Ok(outcome)
 }
 
 /// Checks the module on standard input.
@@ -103,21 +99,28 @@ fn check_file<W: Write>(
     if options.lines.file == STANDARD_INPUT {
         return check_standard_input(rt, out, options);
     }
-    match fs::read(rt, options.lines.file) {
+    match read_file(rt, options.lines.file) {
         Ok(input) => check_input(rt, out, options, &input),
-        Err(error) => write_unreadable(rt, out, options, error),
+        Err(error) if error.kind() == io::ErrorKind::OutOfMemory => Err(error),
+        Err(error) => write_unreadable(rt, out, options, &error),
     }
 }
 
 /// How a file is checked, by the words of the program.
-fn check_options<'o>(options: &Options, file: &'o str) -> CheckOptions<'o> {
+fn check_options<'o>(alloc: Global, options: &'o Options, file: &'o [u8]) -> CheckOptions<'o> {
     CheckOptions {
         lines: Lines {
+            alloc,
             format: options.format,
             file,
             is_one_of_several: options.files.len() > 1,
         },
         detail: options.detail,
+        explains: options.explains,
+        traced: match &options.traced {
+            Some(word) => Some(word.as_slice()),
+            None => None,
+        },
         features: options.features,
     }
 }
@@ -125,14 +128,20 @@ fn check_options<'o>(options: &Options, file: &'o str) -> CheckOptions<'o> {
 /// Checks each file, or standard input where none is named.
 fn check_files<W: Write>(rt: &HostRuntime, out: &mut W, options: &Options) -> io::Result<Outcome> {
     if options.files.is_empty() {
-        return check_file(rt, out, check_options(options, STANDARD_INPUT));
+        return check_file(rt, out, check_options(rt.alloc(), options, STANDARD_INPUT));
     }
     let mut outcome = Outcome::Valid;
     for file in &options.files {
-        outcome = outcome.or(check_file(rt, out, check_options(options, file.as_str()))?);
+        let checked = check_file(rt, out, check_options(rt.alloc(), options, file))?;
+        outcome = outcome.or(checked);
         out.flush()?;
     }
     Ok(outcome)
+}
+
+/// The program's status.
+pub fn status_of(outcome: Outcome) -> u8 {
+    u8::try_from(outcome.status()).unwrap_or(u8::MAX)
 }
 
 /// Checks what is to be checked, and answers the status.
@@ -140,7 +149,7 @@ fn check(rt: &HostRuntime, options: &Options) -> io::Result<u8> {
     let mut out = BufWriter::new(rt.alloc(), io::writer(rt))?;
     let outcome = check_files(rt, &mut out, options)?;
     out.flush()?;
-    Ok(outcome.status())
+    Ok(status_of(outcome))
 }
 
 /// Does what the words ask for, and answers the status.
@@ -148,7 +157,7 @@ fn run_options(rt: &HostRuntime, options: &Options) -> io::Result<u8> {
     match options.action {
         Action::Check => check(rt, options),
         Action::Help => {
-            write_help(&mut rt.stdout())?;
+            write_help(rt.alloc(), &mut rt.stdout())?;
             Ok(SUCCESS)
         }
         Action::Version => {
@@ -158,15 +167,21 @@ fn run_options(rt: &HostRuntime, options: &Options) -> io::Result<u8> {
     }
 }
 
+/// Says why the words aren't understood, and answers the status.
+fn write_usage_error(rt: &HostRuntime, error: &UsageError) -> io::Result<u8> {
+    let mut message = Written::new(rt.alloc());
+    message.add("wasmcheck: ");
+    add_error(&mut message, error);
+    message.add("\n");
+    message.write_to(&mut rt.stderr())?;
+    Ok(USAGE_ERROR)
+}
+
 /// Runs the program, and answers its status.
 pub fn run(rt: &HostRuntime) -> io::Result<u8> {
     match read_options(rt) {
         Ok(options) => run_options(rt, &options),
         Err(UsageError::Unread(error)) => Err(error),
-        Err(error) => {
-            let mut err = rt.stderr();
-            writeln!(err, "wasmcheck: {error}")?;
-            Ok(USAGE_ERROR)
-        }
+        Err(error) => write_usage_error(rt, &error),
     }
 }

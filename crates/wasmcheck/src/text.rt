@@ -1,102 +1,123 @@
 //! Lines in words.
 
 use crate::lines::{Counts, Finding, Summary};
+use crate::operators::RefusedOperator;
+use crate::shown::{add_name, add_word};
+use crate::written::Written;
 use module_check::Verdict;
-use std::io;
-use std::io::Write;
 use validate_types::Error;
 
 /// Begins a line, by the file where there are several.
-fn begin<W: Write>(out: &mut W, prefix: Option<&str>) -> io::Result<()> {
-    match prefix {
-        Some(file) => write!(out, "{file}: "),
-        None => Ok(()),
+pub fn begin(out: &mut Written, prefix: Option<&[u8]>) {
+    if let Some(file) = prefix {
+        add_word(out, file);
+        out.add(": ");
     }
 }
 
-/// Writes what a line is about, with the function's name where it has one.
-fn write_subject<W: Write>(out: &mut W, finding: &Finding<'_>) -> io::Result<()> {
+/// Adds what a line is about, with the function's name where it has one.
+fn add_subject(out: &mut Written, finding: &Finding<'_>) {
     match finding.item {
-        Some(item) => write!(out, "{item}")?,
-        None => write!(out, "module")?,
+        Some(item) => out.show(item),
+        None => out.add("module"),
     }
-    match finding.name {
-        Some(name) => write!(out, " {name:?}"),
-        None => Ok(()),
+    if let Some(name) = finding.name {
+        out.add(" ");
+        add_name(out, name);
     }
 }
 
-/// Writes where and why something is refused.
-fn write_refusal<W: Write>(
-    out: &mut W,
-    operator: Option<&'static str>,
-    refusal: &Error,
-) -> io::Result<()> {
-    write!(out, " failed at ")?;
-    if let Some(name) = operator {
-        write!(out, "{name}, ")?;
+/// Adds which operator is refused.
+fn add_operator(out: &mut Written, operator: Option<RefusedOperator>) {
+    if let Some(operator) = operator {
+        out.add(operator.name);
+        out.add(", ");
     }
-    let offset = refusal.offset();
-    let text = refusal.message();
-    writeln!(out, "offset 0x{offset:x}: {text}")
 }
 
-/// Writes the line of an item or of the module.
-pub fn write_finding<W: Write>(
-    out: &mut W,
-    prefix: Option<&str>,
-    finding: &Finding<'_>,
-) -> io::Result<()> {
-    begin(out, prefix)?;
-    write_subject(out, finding)?;
+/// Adds the label that the refused operator names, if there isn't one.
+fn add_label(out: &mut Written, operator: Option<RefusedOperator>) {
+    if let Some(
+        RefusedOperator {
+            label: Some(label),
+            ..
+        },
+    ) = operator
+    {
+        out.add(" (");
+        out.show(label);
+        out.add(")");
+    }
+}
+
+/// Adds where and why something is refused.
+fn add_refusal(out: &mut Written, operator: Option<RefusedOperator>, refusal: &Error) {
+    out.add(" failed at ");
+    add_operator(out, operator);
+    out.add("offset ");
+    out.add_offset(refusal.offset());
+    out.add(": ");
+    out.add(refusal.message());
+    add_label(out, operator);
+}
+
+/// Adds what an item comes to.
+fn add_verdict(out: &mut Written, finding: &Finding<'_>) {
     match finding.verdict {
-        Verdict::Accepted => writeln!(out, ": accepted"),
+        Verdict::Accepted => out.add(": accepted"),
         Verdict::Refused(refusal) | Verdict::Malformed(refusal) => {
-            write_refusal(out, finding.operator, refusal)
+            add_refusal(out, finding.operator, refusal);
         }
         Verdict::NotCovered(offset) => {
-            writeln!(
-                out,
-                ": not covered: a vector operator at offset 0x{offset:x}"
-            )
+            out.add(": not covered: a vector operator at offset ");
+            out.add_offset(*offset);
         }
-        Verdict::OutOfMemory => writeln!(out, ": out of memory"),
+        Verdict::OutOfMemory => out.add(": out of memory"),
     }
 }
 
-/// Writes how many types are equal to earlier ones, if some are, and how many bodies and expressions came to what.
-fn write_counts<W: Write>(out: &mut W, prefix: Option<&str>, counts: Counts) -> io::Result<()> {
+/// Adds the line of an item or of the module, and below it what is shown of its operators.
+pub fn add_finding(out: &mut Written, prefix: Option<&[u8]>, finding: &Finding<'_>) {
+    begin(out, prefix);
+    add_subject(out, finding);
+    add_verdict(out, finding);
+    out.add("\n");
+    out.add_written(finding.shown);
+}
+
+/// Adds a count, and what it counts.
+fn add_count(out: &mut Written, count: u64, what: &str) {
+    out.show(count);
+    out.add(what);
+}
+
+/// Adds how many types are equal to earlier ones, if some are, and how many bodies and expressions came to what.
+fn add_counts(out: &mut Written, prefix: Option<&[u8]>, counts: Counts) {
     if counts.equal_types > 0 {
-        begin(out, prefix)?;
-        writeln!(out, "{} types equal to earlier ones", counts.equal_types)?;
+        begin(out, prefix);
+        add_count(
+            out,
+            counts.equal_types as u64,
+            " types equal to earlier ones\n",
+        );
     }
-    begin(out, prefix)?;
-    let Counts {
-        accepted,
-        refused,
-        not_covered,
-        wants_memory,
-        ..
-    } = counts;
-    write!(
-        out,
-        "{accepted} accepted, {refused} refused, {not_covered} not covered"
-    )?;
-    match wants_memory {
-        0 => writeln!(out),
-        _ => writeln!(out, ", {wants_memory} out of memory"),
+    begin(out, prefix);
+    add_count(out, counts.accepted, " accepted, ");
+    add_count(out, counts.refused, " refused, ");
+    add_count(out, counts.not_covered, " not covered");
+    if counts.out_of_memory > 0 {
+        out.add(", ");
+        add_count(out, counts.out_of_memory, " out of memory");
     }
+    out.add("\n");
 }
 
-/// Writes what the module comes to, in one word, and ahead of it how many came to what, where that is asked for.
-pub fn write_summary<W: Write>(
-    out: &mut W,
-    prefix: Option<&str>,
-    summary: &Summary,
-) -> io::Result<()> {
+/// Adds what the module comes to, in one word, and ahead of it how many came to what, where that is asked for.
+pub fn add_summary(out: &mut Written, prefix: Option<&[u8]>, summary: &Summary) {
     if let Some(counts) = summary.counts {
-        write_counts(out, prefix, counts)?;
+        add_counts(out, prefix, counts);
     }
-    begin(out, prefix)?;
-    writeln!(out, "{}", summary.outcome.word())
+    begin(out, prefix);
+    out.add(summary.outcome.word());
+    out.add("\n");
 }

@@ -1,36 +1,44 @@
-//! How the program is used, and what is said of words that aren't understood.
+//! How the program is used, and what is said of words that it doesn't know.
 
+use crate::shown::add_word;
+use crate::written::Written;
 use module_check::ModuleFeatures;
-use std::alloc::Global;
+use std::alloc::{AllocError, Global};
+use std::io;
 use std::io::Write;
-use std::{fmt, io};
 use validate_types::Flags;
 
 /// What `--help` begins with, up to the names of proposals.
 const OPTIONS: &str = "\
 usage: wasmcheck [OPTIONS] [--] [FILE]...
 
-Says of each binary WebAssembly module, in a FILE or on standard input (-), whether it is valid, and
-why not: what it declares, the bodies of its functions, and its constant expressions.
+Checks binary WebAssembly modules, in each FILE or on standard input (-): what they declare, the bodies
+of their functions, and their constant expressions. Says whether a module is valid and, if not, why.
 
-  -q, --quiet      print nothing: the status says it
-  -v, --verbose    print a line for each body, accepted ones too, and how many came to what
+  -q, --quiet      print nothing; the status is the answer
+  -v, --verbose    print a line also for what is accepted, and counts; of several files, name those
+                   that are valid too
+      --explain    show below each refusal the last operators, the operands and the open blocks
+      --trace FUNC list the operators of the function with this index or name, with the operands
+                   after each
       --json       print each line as an object of JSON
-      --features LIST
-                   the proposals that are on, by their names, with commas between: all, unless
-                   this is said; a leading - takes one off (-gc,-exceptions)
+  -f, --features LIST
+                   which proposals are on, with commas between. LIST changes the default set: a name
+                   turns its proposal on, a - before the name turns it off (wide-arithmetic,-gc), and
+                   a set replaces all that stands before it (none,gc)
   -h, --help       print this
   -V, --version    print the version
-      --           what follows are files
+      --           all words after this are files
 
-Proposals: all; none; default, which wasmparser has on; and
+Sets: all; none; default, which wasmparser has on; the standard's versions: wasm1 or mvp, wasm2,
+wasm3. Proposals, in whose names a - may stand for a _:
 ";
 
 /// What it ends with.
 const STATUSES: &str = "
-Status, of several files the first of these that is so: 3 want of memory, or a failed read or write;
-5 a file can't be read; 2 malformed, or words that aren't understood; 1 invalid; 4 nothing is
-refused, and there are vector operators, which aren't covered; 0 valid.
+Status: 0 valid; 1 invalid; 2 malformed, or an unknown option, proposal or function; 3 out of memory,
+or a read or write failed; 4 not covered: nothing is refused, but there are vector operators; 5 a
+file can't be read. If several hold, it is the first of 3, 5, 2, 1, 4.
 ";
 
 /// The version of the program.
@@ -40,54 +48,66 @@ const VERSION: &str = "wasmcheck 0.1.0, the operator validator of wasmparser 0.2
 const NAMES_IN_LINE: usize = 4;
 
 /// Writes how the program is used.
-pub fn write_help<W: Write>(out: &mut W) -> io::Result<()> {
-    write!(out, "{OPTIONS}")?;
+pub fn write_help<W: Write>(alloc: Global, out: &mut W) -> io::Result<()> {
+    let mut help = Written::new(alloc);
+    help.add(OPTIONS);
     for names in ModuleFeatures::flags().chunks(NAMES_IN_LINE) {
-        write!(out, "  ")?;
+        help.add("  ");
         for flag in names {
-            write!(out, " {}", flag.name)?;
+            help.add(" ");
+            help.add(flag.name);
         }
-        writeln!(out)?;
+        help.add("\n");
     }
-    write!(out, "{STATUSES}")
+    help.add(STATUSES);
+    help.write_to(out)
 }
 
 /// Writes which version the program is.
 pub fn write_version<W: Write>(out: &mut W) -> io::Result<()> {
-    write!(out, "{VERSION}")
+    out.write_all(VERSION.as_bytes())
 }
 
 /// Why the words aren't understood, or couldn't be read.
 #[derive(Drop)]
 pub enum UsageError {
     /// No option is this word.
-    Word(String),
+    Option(Vec<u8>),
     /// No proposal has this name.
-    Proposal(String),
-    /// No list of proposals stands behind the option.
-    NoList,
+    Proposal {
+        /// The name.
+        word: Vec<u8>,
+        /// The one that it is nearest to.
+        nearest: Option<&'static str>,
+    },
+    /// This option needs a value.
+    NoValue(&'static str),
     /// They couldn't be read.
     Unread(io::Error),
 }
 
 impl UsageError {
-    /// Want of memory for the words.
+    /// Memory ran out for the words.
     pub fn out_of_memory() -> UsageError {
         UsageError::Unread(io::Error::from(io::ErrorKind::OutOfMemory))
     }
 
     /// A word that is no option.
-    pub fn unknown_word(alloc: Global, word: &str) -> UsageError {
-        match String::from_str(alloc, word) {
-            Ok(word) => UsageError::Word(word),
+    pub fn unknown_option(alloc: Global, word: &[u8]) -> UsageError {
+        match Vec::from_slice(alloc, word) {
+            Ok(word) => UsageError::Option(word),
             Err(_) => UsageError::out_of_memory(),
         }
     }
 
-    /// A name that no proposal has.
-    pub fn unknown_proposal(alloc: Global, name: &str) -> UsageError {
-        match String::from_str(alloc, name) {
-            Ok(name) => UsageError::Proposal(name),
+    /// A name that no proposal has, and the one that it is nearest to.
+    pub fn unknown_proposal(
+        alloc: Global,
+        word: &[u8],
+        nearest: Option<&'static str>,
+    ) -> UsageError {
+        match Vec::from_slice(alloc, word) {
+            Ok(word) => UsageError::Proposal { word, nearest },
             Err(_) => UsageError::out_of_memory(),
         }
     }
@@ -99,22 +119,37 @@ impl From<io::Error> for UsageError {
     }
 }
 
-impl fmt::Display for UsageError {
-    fn fmt<W: fmt::Write>(&self, f: &mut fmt::Formatter<W>) -> fmt::Result {
-        match self {
-            UsageError::Word(word) => write!(f, "no option is {word:?} (--help tells of them)"),
-            UsageError::Proposal(name) => {
-                write!(
-                    f,
-                    "no proposal is named {name:?}; there are all, default, none"
-                )?;
-                for flag in ModuleFeatures::flags() {
-                    write!(f, ", {}", flag.name)?;
-                }
-                Ok(())
-            }
-            UsageError::NoList => write!(f, "no list of proposals stands behind --features"),
-            UsageError::Unread(error) => write!(f, "{error}"),
+impl From<AllocError> for UsageError {
+    fn from(_error: AllocError) -> UsageError {
+        UsageError::out_of_memory()
+    }
+}
+
+/// Says that no proposal has this name, and which one it is nearest to.
+fn add_proposal(out: &mut Written, word: &[u8], nearest: Option<&'static str>) {
+    out.add("unknown proposal ");
+    add_word(out, word);
+    if let Some(name) = nearest {
+        out.add(": did you mean ");
+        out.add(name);
+        out.add("?");
+    }
+    out.add(" (--help lists all)");
+}
+
+/// Says why the words aren't understood.
+pub fn add_error(out: &mut Written, error: &UsageError) {
+    match error {
+        UsageError::Option(word) => {
+            out.add("unknown option ");
+            add_word(out, word);
+            out.add(" (--help lists all)");
         }
+        UsageError::Proposal { word, nearest } => add_proposal(out, word, *nearest),
+        UsageError::NoValue(option) => {
+            out.add(option);
+            out.add(" needs a value");
+        }
+        UsageError::Unread(_) => out.add("the words can't be read"),
     }
 }

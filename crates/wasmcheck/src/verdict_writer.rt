@@ -1,92 +1,79 @@
-//! What is written of a module.
+//! What a module comes to as it is checked, and what is written of it.
+
+ghost use Rattle.std.specs.Prelude.{◌≡◌, IfOk};
+ghost use Rattle.module_check.specs.declared.outcome.Outcome.TheVariants.{Valid};
+ghost use Rattle.module_check.specs.declared.verdict.Verdict.TheVariants.{Accepted};
 
 use crate::lines::{Counts, Finding, Lines, Summary};
 use crate::options::Detail;
-use crate::outcome::Outcome;
-use module_check::{FunctionNames, Item, Verdict};
+use crate::written::Written;
+use module_check::{Outcome, Verdict};
 use std::io;
 use std::io::Write;
 
-/// Writes the verdicts on the items of a module as it is checked, and counts them.
-#[derive(Drop)]
-pub struct VerdictWriter<'m> {
-    names: FunctionNames<'m>,
-    detail: Detail,
-    outcome: Outcome,
-    counts: Counts,
+/// What a module comes to, as far as it is checked.
+#[derive(Clone, Copy)]
+pub struct Tally {
+    /// What it comes to.
+    pub outcome: Outcome,
+    /// How many items came to what.
+    pub counts: Counts,
 }
 
-impl<'m> VerdictWriter<'m> {
-    /// Nothing so far, of a module with these names, so many of whose types are equal to earlier ones.
-    pub fn new(names: FunctionNames<'m>, detail: Detail, equal_types: usize) -> VerdictWriter<'m> {
-        VerdictWriter {
-            names,
-            detail,
+impl Tally {
+    /// Nothing is checked, of a module so many of whose types are equal to earlier ones.
+    pub fn new(equal_types: usize) -> Tally {
+        Tally {
             outcome: Outcome::Valid,
             counts: Counts {
                 accepted: 0,
                 refused: 0,
                 not_covered: 0,
-                wants_memory: 0,
+                out_of_memory: 0,
                 equal_types,
             },
         }
     }
 
-    /// The name of the function that an item is, where it has one.
-    fn name_of(&self, item: Item) -> Option<&'m str> {
-        match item {
-            Item::Function(function) => self.names.of(function),
-            Item::Expression(_) => None,
-        }
-    }
-
     /// Counts one more.
-    fn count(&mut self, outcome: Outcome) {
-        self.outcome = self.outcome.or(outcome);
-        let counts = &mut self.counts;
-        match outcome {
-            Outcome::Valid => counts.accepted = counts.accepted.saturating_add(1),
-            Outcome::NotCovered => counts.not_covered = counts.not_covered.saturating_add(1),
-            Outcome::OutOfMemory => counts.wants_memory = counts.wants_memory.saturating_add(1),
-            _ => counts.refused = counts.refused.saturating_add(1),
-        }
-    }
-
-    /// Counts a verdict, and writes the line of its item, unless that is left out.
-    pub fn write_item<W: Write>(
-        &mut self,
-        out: &mut W,
-        lines: Lines<'_>,
-        item: Item,
-        operator: Option<&'static str>,
-        verdict: &Verdict,
-    ) -> io::Result<()> {
-        self.count(Outcome::of(verdict));
-        let finding = Finding {
-            item: Some(item),
-            name: self.name_of(item),
-            operator,
-            verdict,
-        };
-        match (self.detail, verdict) {
-            (Detail::Quiet, _) | (Detail::Normal, Verdict::Accepted) => Ok(()),
-            _ => lines.write_finding(out, &finding),
-        }
-    }
-
-    /// Writes what the module comes to, and where each line is written how many came to what. It answers the former.
-    pub fn end<W: Write>(&self, out: &mut W, lines: Lines<'_>) -> io::Result<Outcome> {
-        let counts = match self.detail {
-            Detail::Verbose => Some(self.counts),
-            Detail::Quiet | Detail::Normal => None,
-        };
-        write_summary(out, lines, self.detail, self.outcome, counts)?;
-        Ok(self.outcome)
+    pub fn count(&mut self, verdict: &Verdict)
+        ensures { self.new.outcome ≡ Valid → (self.old.outcome ≡ Valid) × (verdict.now ≡ Accepted) }
+    {
+        self.outcome = self.outcome.or(Outcome::of(verdict));
+        self.counts.add(verdict);
     }
 }
 
-/// Writes what a module comes to, unless nothing is to be written.
+/// Writes the line of an item, unless that is left out.
+pub fn write_item<W: Write>(
+    out: &mut W,
+    lines: Lines<'_>,
+    detail: Detail,
+    finding: &Finding<'_>,
+) -> io::Result<()> {
+    match (detail, finding.verdict) {
+        (Detail::Quiet, _) => Ok(()),
+        (Detail::Normal, Verdict::Accepted) if finding.shown.is_empty() => Ok(()),
+        _ => lines.write_finding(out, finding),
+    }
+}
+
+/// Writes what a module comes to, and where each line is written how many came to what.
+pub fn write_tally<W: Write>(
+    out: &mut W,
+    lines: Lines<'_>,
+    detail: Detail,
+    tally: Tally,
+) -> io::Result<()> {
+    let counts = match detail {
+        Detail::Verbose => Some(tally.counts),
+        Detail::Quiet | Detail::Normal => None,
+    };
+    write_summary(out, lines, detail, tally.outcome, counts)
+}
+
+/// Writes what a module comes to, unless nothing is to be written. Of several files, a valid one is passed over, unless
+/// each line is written.
 pub fn write_summary<W: Write>(
     out: &mut W,
     lines: Lines<'_>,
@@ -94,10 +81,36 @@ pub fn write_summary<W: Write>(
     outcome: Outcome,
     counts: Option<Counts>,
 ) -> io::Result<()> {
-    match detail {
-        Detail::Quiet => Ok(()),
-        Detail::Normal | Detail::Verbose => lines.write_summary(out, &Summary { outcome, counts }),
+    match (detail, outcome) {
+        (Detail::Quiet, _) => Ok(()),
+        (Detail::Normal, Outcome::Valid) if lines.is_one_of_several => Ok(()),
+        _ => lines.write_summary(out, &Summary { outcome, counts }),
     }
+}
+
+/// What is found of a module as a whole.
+fn finding_of_module<'r>(verdict: &'r Verdict, shown: &'r Written) -> Finding<'r> {
+    Finding {
+        item: None,
+        name: None,
+        operator: None,
+        verdict,
+        shown,
+    }
+}
+
+/// Writes why the module as a whole isn't checked, unless nothing is to be written.
+fn write_refusal<W: Write>(
+    out: &mut W,
+    lines: Lines<'_>,
+    detail: Detail,
+    verdict: &Verdict,
+) -> io::Result<()> {
+    if let Detail::Quiet = detail {
+        return Ok(());
+    }
+    let shown = Written::new(lines.alloc);
+    lines.write_finding(out, &finding_of_module(verdict, &shown))
 }
 
 /// Writes why the module as a whole isn't checked, and what it comes to, which it answers.
@@ -106,16 +119,10 @@ pub fn write_module<W: Write>(
     lines: Lines<'_>,
     detail: Detail,
     verdict: &Verdict,
-) -> io::Result<Outcome> {
-    let finding = Finding {
-        item: None,
-        name: None,
-        operator: None,
-        verdict,
-    };
-    if !matches!(detail, Detail::Quiet) {
-        lines.write_finding(out, &finding)?;
-    }
+) -> io::Result<Outcome>
+    ensures { IfOk result (λ outcome. outcome ≡ Valid → verdict.now ≡ Accepted) }
+{
+    write_refusal(out, lines, detail, verdict)?;
     let outcome = Outcome::of(verdict);
     write_summary(out, lines, detail, outcome, None)?;
     Ok(outcome)

@@ -1,13 +1,13 @@
-//! Writes a module again, with a call before each `call`:
+//! Rewrites a module, with one more call before each `call`:
 //!
 //! ```text
 //! instrument IN.wasm OUT.wasm
 //! ```
 //!
-//! The new call is of a hook that counts, in a global that is exported as `calls`. What the hook takes and gives is
-//! the operand on top, for a number of each type has a hook of its own; if there is none in the block, or none of a
-//! known number type, the hook takes nothing. So the instrumenter has to know the types of the operands, and asks the
-//! validator.
+//! The new call is of a hook, which counts in a global that is exported as `calls`. The hook takes the operand on top
+//! and gives it back, and each type of numbers has a hook of its own. If the block has no operand, or the one on top
+//! isn't known to be a number, the hook takes nothing. So the instrumenter has to know the types of the operands, and
+//! asks the validator for them.
 
 use std::error::Error;
 use std::process::ExitCode;

@@ -1,6 +1,6 @@
-//! Tells of each module that is named what isn't accepted, with upstream's default proposals on, and how much came to
-//! what; behind `-f INDEX`, what the body of one of its functions comes to. Ends with the greatest status, and with 7
-//! where a file can't be read or a word isn't understood.
+//! Checks each module that is named, with upstream's default proposals on, and prints what isn't accepted, and counts.
+//! After `-f INDEX` it checks only the body of the function at that index. It ends with the greatest status, or with 7
+//! if a file can't be read or a word isn't known.
 
 use std::ffi::{OsStr, OsString};
 use std::path::Path;

@@ -11,23 +11,23 @@ use core::str;
 /// The text of an error for whose own text there was no memory.
 const NO_TEXT: &str = "no memory for the text";
 
-/// What kind of reason it is.
+/// The kind of an error.
 #[derive(Clone, Copy, Debug, PartialEq, Eq, Hash)]
 #[non_exhaustive]
 pub enum ErrorKind {
-    /// What the module declares isn't valid, or a body or a constant expression, or an operator.
+    /// What the module declares isn't valid, or a body, a constant expression or an operator isn't.
     Invalid,
     /// The bytes aren't those of a module, or of an operator.
     Malformed,
-    /// There was no memory for the check: nothing is known.
+    /// Memory ran out: nothing is known.
     OutOfMemory,
-    /// A vector operator, which isn't covered, stands behind operators that are accepted.
+    /// There is a vector operator, which isn't covered, and no operator before it is refused.
     NotCovered,
     /// The module has no body for the function: it is imported, isn't there, or was declared without bodies.
     NoBody,
 }
 
-/// What it is about.
+/// What an error is about.
 #[derive(Clone, Copy, Debug, PartialEq, Eq, Hash)]
 #[non_exhaustive]
 pub enum Item {
@@ -35,13 +35,13 @@ pub enum Item {
     Function(u64),
     /// The constant expression of the table at this index.
     Table(u64),
-    /// That of the global at this index.
+    /// The constant expression of the global at this index.
     Global(u64),
-    /// That of the offset of the element segment at this index.
+    /// The offset of the element segment at this index.
     ElementOffset(u64),
-    /// That of an item of the element segment at this index.
+    /// An item of the element segment at this index.
     Element(u64),
-    /// That of the offset of the data segment at this index.
+    /// The offset of the data segment at this index.
     DataOffset(u64),
     /// A function, or a constant expression, that isn't one of the module's: a [`Function`](crate::Function) that is
     /// being written.
@@ -92,21 +92,21 @@ pub(crate) fn owned(bytes: &[u8]) -> Option<String> {
 }
 
 impl Error {
-    /// What kind of reason it is.
+    /// The kind of the error.
     #[must_use]
     pub fn kind(&self) -> ErrorKind {
         self.kind
     }
 
-    /// What it is about.
+    /// What the error is about.
     #[must_use]
     pub fn item(&self) -> Item {
         self.item
     }
 
-    /// Where it is, from the first byte of the module. Of a call on a [`Function`](crate::Function), it is the offset
-    /// that the call was given or, if the bytes are malformed, that of the byte inside the operator. It is 0 if memory
-    /// ran out, and for a body that isn't there.
+    /// Where it is, from the first byte of the module. After a call on a [`Function`](crate::Function) it is the offset
+    /// that you gave or, if the bytes are malformed, that of the byte inside the operator. It is 0 if memory ran out,
+    /// and for a body that isn't there.
     #[must_use]
     pub fn offset(&self) -> u64 {
         self.offset
@@ -118,8 +118,8 @@ impl Error {
         &self.message
     }
 
-    /// Why the rule of an operator refuses it. None if none does: the bytes aren't an operator's, or what a module
-    /// declares is wrong, or the order of calls is.
+    /// Why the rule of an operator refuses it. It is None if no rule does: if the bytes aren't an operator's, if a
+    /// module declares something that isn't valid, if the calls come in a wrong order, or if memory ran out.
     #[must_use]
     pub fn reason(&self) -> Option<Reason> {
         self.reason
@@ -132,7 +132,7 @@ impl Error {
         (!name.is_empty()).then_some(name)
     }
 
-    /// The function's name, if it is about one to which the module gives a name.
+    /// The name of the function that the error is about, if the module gives it one.
     #[must_use]
     pub fn function_name(&self) -> Option<&str> {
         self.function_name.as_deref()

@@ -23,13 +23,13 @@ type Take = unsafe extern "C" fn(
 
 /// A function that is validated operator by operator, as upstream's `FuncValidator`.
 ///
-/// [`Module::function`](crate::Module::function) begins one of a type,
-/// [`Module::function_body`](crate::Module::function_body) one of the module's. An operator is the bytes that encode
-/// it, so none is named by a variant. [`Function::op`] takes one, and [`Function::try_op`] attempts one: refused, it
-/// leaves no trace. In between, the types of the operands and the open frames can be read. Once [`Function::finish`]
-/// accepts, no run of the accepted operators gets stuck.
+/// [`Module::function`](crate::Module::function) begins one by its type,
+/// [`Module::function_body`](crate::Module::function_body) one that has a body in the module. An operator is the bytes
+/// that encode it; there is no enum of operators. [`Function::op`] takes an operator. [`Function::try_op`] attempts
+/// one: if it is refused, it leaves no trace. In between, the types of the operands and the open frames can be read. If
+/// [`Function::finish`] accepts, no run of the accepted operators gets stuck.
 ///
-/// It keeps the module that it stands on. It is `Send`, and not `Sync`: one call at a time reads its stacks.
+/// It keeps its module. It is `Send`, and not `Sync`: one call at a time reads its stacks.
 ///
 /// ```
 /// use tansyattic::{Module, Operand, Reason, ValType};
@@ -88,8 +88,8 @@ impl<'a> Function<'a> {
     ///
     /// # Errors
     ///
-    /// An operator came before, the type isn't one of the module or of its proposals, there are too many, or memory
-    /// ran out. Nothing is changed then.
+    /// An operator came before, the module has no such type, the proposal of the type is off, there are too many
+    /// locals, or memory ran out. Nothing is changed then.
     pub fn define_locals(&mut self, count: u32, ty: ValType, offset: u64) -> Result<(), Error> {
         let handle = self.handle.get_mut();
         let ty = ty.to_raw();
@@ -110,24 +110,24 @@ impl<'a> Function<'a> {
         defined.map_err(|error| error.about(self.item))
     }
 
-    /// Takes the operator that the bytes begin with, which more may follow, and answers how many bytes it has. Errors
-    /// count from the offset.
+    /// Takes the operator that the bytes begin with, and answers how many bytes it has. Other bytes may follow it. You
+    /// choose the offset: it is where an error says that the operator stands.
     ///
     /// # Errors
     ///
-    /// The operator's rule doesn't hold, the bytes begin with no operator, or end inside one, or memory ran out. The
-    /// function has failed then: it takes no operator any more, and isn't finished. A vector operator isn't covered;
-    /// that changes nothing.
+    /// The operator's rule doesn't hold, the bytes begin with no operator or end inside one, the function has failed
+    /// before or is closed, or memory ran out. Then the function has failed: it takes no operator any more, and
+    /// [`Function::finish`] doesn't accept it. A vector operator isn't covered; it changes nothing.
     pub fn op(&mut self, bytes: &[u8], offset: u64) -> Result<usize, Error> {
         // SAFETY: it is one of the two calls.
         unsafe { self.take(raw::tansyattic_raw_op, bytes, offset) }
     }
 
-    /// The same, but an operator that isn't taken leaves no trace.
+    /// Attempts an operator: the same as [`Function::op`], but an operator that isn't taken leaves no trace.
     ///
     /// # Errors
     ///
-    /// As of [`Function::op`], and also the function may have failed before.
+    /// Those of [`Function::op`], but the function hasn't failed by them.
     pub fn try_op(&mut self, bytes: &[u8], offset: u64) -> Result<usize, Error> {
         // SAFETY: it is one of the two calls.
         unsafe { self.take(raw::tansyattic_raw_try_op, bytes, offset) }
@@ -155,7 +155,7 @@ impl<'a> Function<'a> {
         }
     }
 
-    /// Whether the function is whole: no operator was refused by [`Function::op`], and no frame is open. It changes
+    /// Accepts the function if it is whole: [`Function::op`] refused no operator, and no frame is open. It changes
     /// nothing.
     ///
     /// # Errors
@@ -188,7 +188,7 @@ impl<'a> Function<'a> {
         usize::try_from(height).unwrap_or(usize::MAX)
     }
 
-    /// The operand at this depth, the top at 0, or None where there are no more.
+    /// The operand at this depth, the top at 0, or None if there are no more.
     #[doc(alias = "get_operand_type")]
     #[must_use]
     pub fn operand(&self, depth: usize) -> Option<Operand> {
@@ -216,7 +216,7 @@ impl<'a> Function<'a> {
             .map(|depth| self.operand(depth).unwrap_or(Operand::Unknown))
     }
 
-    /// The frame at this depth, the innermost at 0, or None where there are no more.
+    /// The frame at this depth, the innermost at 0, or None if there are no more.
     #[doc(alias = "get_control_frame")]
     #[must_use]
     pub fn frame(&self, depth: usize) -> Option<Frame> {
@@ -230,14 +230,14 @@ impl<'a> Function<'a> {
         Frame::of_raw(&frame)
     }
 
-    /// How many locals there are, with the parameters.
+    /// How many locals there are, the parameters included.
     #[must_use]
     pub fn len_locals(&self) -> u32 {
         // SAFETY: as in `operand_stack_height`.
         unsafe { raw::tansyattic_locals(self.handle.get()) }
     }
 
-    /// The type of the local at this index, the parameters first, or None where there are no more.
+    /// The type of the local at this index, the parameters first, or None if there are no more.
     #[doc(alias = "get_local_type")]
     #[must_use]
     pub fn local(&self, index: u32) -> Option<ValType> {

@@ -1,6 +1,8 @@
-//! Whether a binary WebAssembly module is valid, and whether the next operator of a function is, by the static library
-//! `libtansyattic.a`, whose calls are proved: where one says so, what the module declares is valid, and no run of its
-//! bodies' operators gets stuck. docs/MODULES.md and docs/EMBEDDING.md have what is proved and what isn't.
+//! Says whether a binary WebAssembly module is valid, and whether the next operator of a function is.
+//!
+//! The static library `libtansyattic.a` does the work, and its calls are proved: if one says that a module is valid,
+//! what the module declares is valid, and no run of its bodies' operators gets stuck. docs/MODULES.md and
+//! docs/EMBEDDING.md say what is proved and what isn't.
 //!
 //! ```
 //! // (func (param i32 i32) (result i32) local.get 0 local.get 1 i32.add)
@@ -30,10 +32,10 @@
 //!
 //! # From wasmparser
 //!
-//! Here are, under the same names: [`Validator::validate_all`], a [`Module`] in place of `ValidatorResources`, a
-//! [`Function`] in place of `FuncValidator`, with [`Function::op`], [`Function::try_op`], [`Function::finish`] and
-//! what lies on the stacks, and the types [`ValType`], [`RefType`], [`HeapType`], [`FrameKind`], [`BlockType`],
-//! [`Frame`]. docs/USING.md has a table.
+//! These have the same names here: [`Validator::validate_all`], and the types [`ValType`], [`RefType`], [`HeapType`],
+//! [`FrameKind`], [`BlockType`] and [`Frame`]. A [`Module`] stands in place of `ValidatorResources`, and a [`Function`]
+//! in place of `FuncValidator`: it has [`Function::op`], [`Function::try_op`], [`Function::finish`], and calls that
+//! show its stacks. docs/USING.md has a table.
 //!
 //! **What isn't here**:
 //!
@@ -41,17 +43,17 @@
 //!   bytes of a module are checked at once, none as they arrive.
 //! - **No enum of operators**, nor `VisitOperator`: an operator is the bytes that encode it.
 //! - **No lookup of your own**: no trait `WasmModuleResources`. What a module declares is read from bytes
-//!   ([`Module::declare`]). No `types::Types` or `TypesRef` tells of it.
+//!   ([`Module::declare`]). No `types::Types` or `TypesRef` shows it.
 //! - **No components**, which are [`ErrorKind::Malformed`], and no vector operators, which are
 //!   [`ErrorKind::NotCovered`].
 //!
 //! # To link it
 //!
-//! `build.rs` links the archive from the folder that `TANSYATTIC_LIB_DIR` names, from where pkg-config knows it to be,
-//! or from where `ffi/build` leaves it in the tree. It is built for Linux on x86-64-v2 alone.
+//! `build.rs` takes the archive from the folder that `TANSYATTIC_LIB_DIR` names, if that is set. Otherwise it asks
+//! pkg-config, and then looks where `ffi/build` leaves it in the tree. The archive is built for Linux on x86-64-v2.
 //!
-//! The crate needs no `std`. Under the feature `memory`, which is on by default, the library takes its memory from the
-//! global allocator; without it a program gives the three functions of `ffi/tansyattic.h` itself.
+//! The crate needs no `std`. With the feature `memory`, which is on by default, the library takes its memory from the
+//! global allocator. Without it, a program gives the three functions of `ffi/tansyattic.h` itself.
 
 #![no_std]
 

@@ -29,7 +29,7 @@ enum Extent {
 
 /// A module that was read. What it declares is valid.
 ///
-/// Its sections are read and checked once, by [`Module::parse`], and each check reads the bytes of one body.
+/// [`Module::parse`] reads and checks its sections once. Each later check reads the bytes of one body.
 ///
 /// ```
 /// use tansyattic::Module;
@@ -46,8 +46,8 @@ enum Extent {
 ///
 /// # Threads
 ///
-/// It is `Send` and `Sync`, so several threads check its bodies at once over one reference, as rayon's `par_iter` or
-/// this does. Each call makes a handle of its own, by a small block of memory.
+/// It is `Send` and `Sync`, so several threads can check its bodies at once over one reference: by rayon's `par_iter`,
+/// or as below. For that, each call takes a small block of memory for a handle of its own.
 ///
 /// ```
 /// # let bytes = b"\0asm\x01\0\0\0\x01\x08\x02\x60\0\x01\x7f\x60\0\0\x03\x03\x02\0\x01\x0a\x0a\x02\x04\0\x41\x07\x0b\x03\0\x1a\x0b";
@@ -65,8 +65,8 @@ enum Extent {
 ///
 /// # Bytes
 ///
-/// It reads the bytes as long as it is there, so it borrows them, or shares them: [`Module::parse_shared`] answers a
-/// `Module<'static>`, which may be kept anywhere.
+/// It reads the bytes for as long as it lives, so it borrows them, or shares them: [`Module::parse_shared`] answers a
+/// `Module<'static>`, which borrows nothing and may be kept anywhere.
 pub struct Module<'a> {
     handle: SharedHandle,
     bodies: Range<u32>,
@@ -74,7 +74,7 @@ pub struct Module<'a> {
     bytes: Bytes<'a>,
 }
 
-/// What the check of a module comes to.
+/// The outcome of the check of a module.
 #[derive(Clone, Debug, PartialEq, Eq)]
 #[must_use]
 #[non_exhaustive]
@@ -85,14 +85,14 @@ pub struct Summary {
     pub refused: u64,
     /// How many aren't covered.
     pub not_covered: u64,
-    /// Why not all are accepted: the first of what weighs most, which is that memory ran out, then what is malformed,
-    /// then what is invalid, then what isn't covered.
+    /// Why not all are accepted: the gravest error, and of equally grave ones the first. The gravest is that memory ran
+    /// out; then come malformed, invalid and not covered.
     pub error: Option<Error>,
 }
 
 impl<'a> Module<'a> {
-    /// Reads a module, of which these are all the bytes, and checks what it declares, with the proposals of
-    /// [`Features::DEFAULT`] on, by which its bodies are checked too.
+    /// Reads a module, of which these are all the bytes, and checks what it declares. The proposals of
+    /// [`Features::DEFAULT`] are on, also for its bodies.
     ///
     /// # Errors
     ///
@@ -106,18 +106,18 @@ impl<'a> Module<'a> {
     ///
     /// # Errors
     ///
-    /// As of [`Module::parse`].
+    /// Those of [`Module::parse`].
     pub fn parse_with_features(bytes: &'a [u8], features: Features) -> Result<Module<'a>, Error> {
         Module::read(Bytes::Borrowed(bytes), features, Extent::Whole)
     }
 
-    /// Reads a module that has no bodies yet: one that ends before its code section, or has none. What it declares is
-    /// checked as by [`Module::parse`], but for the count of bodies, and of data segments, which aren't there.
-    /// Functions can be begun over it, and none has a body.
+    /// Reads a module that has no bodies yet: its bytes end before its code section, or have none. What it declares is
+    /// checked as by [`Module::parse`], except for how many bodies and data segments there are. Functions can be begun
+    /// over it, but none of its functions has a body.
     ///
     /// # Errors
     ///
-    /// As of [`Module::parse`], and also the bytes may have a code section.
+    /// Those of [`Module::parse`], or the bytes have bodies (`section out of order`).
     pub fn declare(bytes: &'a [u8]) -> Result<Module<'a>, Error> {
         Module::declare_with_features(bytes, Features::DEFAULT)
     }
@@ -126,7 +126,7 @@ impl<'a> Module<'a> {
     ///
     /// # Errors
     ///
-    /// As of [`Module::declare`].
+    /// Those of [`Module::declare`].
     pub fn declare_with_features(bytes: &'a [u8], features: Features) -> Result<Module<'a>, Error> {
         Module::read(Bytes::Borrowed(bytes), features, Extent::Declarations)
     }
@@ -189,15 +189,15 @@ impl<'a> Module<'a> {
         error.of_operator(bytes).of_function_name(name)
     }
 
-    /// The indices of the functions that have bodies, which are all behind the imported ones. Of a module that was
-    /// read by [`Module::declare`] they are those whose bodies are still to come.
+    /// The indices of the functions that aren't imported. They stand behind the imported ones, and have bodies; in a
+    /// module that was read by [`Module::declare`], the bodies are still to come.
     #[must_use]
     pub fn bodies(&self) -> Range<u32> {
         self.bodies.clone()
     }
 
-    /// The name that the module's name section gives to the function at this index, the imported ones counted. None
-    /// also if there is no memory for it.
+    /// The name that the module's name section gives to the function at this index. Imported functions count in an
+    /// index. It is None if there is no name, or if memory ran out.
     #[must_use]
     pub fn function_name(&self, index: u32) -> Option<String> {
         let mut handle = self.handle.another()?;
@@ -228,11 +228,11 @@ impl<'a> Module<'a> {
         }
     }
 
-    /// Checks the body of the function at this index, the imported ones counted.
+    /// Checks the body of the function at this index. Imported functions count in an index.
     ///
     /// # Errors
     ///
-    /// The body is malformed, invalid or not covered, the module has none for this function, or memory ran out.
+    /// The body is malformed, invalid or not covered, the module has no body for this function, or memory ran out.
     pub fn validate_function(&self, index: u32) -> Result<(), Error> {
         // SAFETY: it is a call on a module.
         let (_, error) = unsafe {
@@ -243,7 +243,7 @@ impl<'a> Module<'a> {
         error.map_or(Ok(()), Err)
     }
 
-    /// Checks each body and each constant expression, and sums up.
+    /// Checks each body and each constant expression, and counts what is accepted and what isn't.
     pub fn summary(&self) -> Summary {
         // SAFETY: it is a call on a module.
         let (verdict, error) = unsafe {
@@ -259,17 +259,18 @@ impl<'a> Module<'a> {
         }
     }
 
-    /// Checks each body and each constant expression. Where they are accepted, the module is valid.
+    /// Checks each body and each constant expression. If all are accepted, the module is valid.
     ///
     /// # Errors
     ///
     /// One of them is malformed, invalid or not covered, the module was declared without bodies, or memory ran out.
-    /// The first of what weighs most is reported.
+    /// The gravest error is reported, as in [`Summary::error`].
     pub fn validate(&self) -> Result<(), Error> {
         self.summary().error.map_or(Ok(()), Err)
     }
 
-    /// Checks them as it is asked for the next error: constant expressions first, then bodies, each in its order.
+    /// All errors, one for each body or constant expression that isn't accepted: constant expressions first, then
+    /// bodies, each in their order. Each is checked as the iterator gets to it.
     ///
     /// ```
     /// # let bytes = b"\0asm\x01\0\0\0\x01\x04\x01\x60\0\0\x03\x03\x02\0\0\x0a\x09\x02\x03\0\x1a\x0b\x03\0\x6a\x0b";
@@ -293,7 +294,7 @@ impl<'a> Module<'a> {
     ///
     /// # Errors
     ///
-    /// There is no such type, or it isn't a function's, or memory ran out.
+    /// There is no such type, it is no function type, or memory ran out.
     pub fn function(&self, type_index: u32) -> Result<Function<'a>, Error> {
         // SAFETY: it is a call that begins a function.
         unsafe {
@@ -303,11 +304,12 @@ impl<'a> Module<'a> {
         }
     }
 
-    /// Begins a constant expression of this type. Whether its operators are constant isn't looked at.
+    /// Begins a constant expression that gives a value of this type. It isn't checked whether its operators are
+    /// constant.
     ///
     /// # Errors
     ///
-    /// The type isn't one of the module or of its proposals, or memory ran out.
+    /// The module has no such type, the proposal of the type is off, or memory ran out.
     pub fn constant_expression(&self, ty: ValType) -> Result<Function<'a>, Error> {
         let ty = ty.to_raw();
         // SAFETY: it is a call that begins a function.
@@ -325,8 +327,9 @@ impl<'a> Module<'a> {
         }
     }
 
-    /// Begins the function at this index, the imported ones counted, with the locals of its body, and answers where
-    /// the operators of the body stand in the module's bytes. [`Module::operators`] takes them one by one.
+    /// Begins the function at this index, with the locals of its body, and answers where the operators of the body
+    /// stand in the module's bytes. Imported functions count in an index. [`Module::operators`] takes the operators one
+    /// by one.
     ///
     /// # Errors
     ///
@@ -347,11 +350,12 @@ impl<'a> Module<'a> {
         Ok((function, place(first)..place(behind)))
     }
 
-    /// The operators of the body of the function at this index, the imported ones counted, validated as they are read.
+    /// The operators of the body of the function at this index, validated as they are read. Imported functions count in
+    /// an index.
     ///
     /// # Errors
     ///
-    /// As of [`Module::function_body`].
+    /// Those of [`Module::function_body`].
     pub fn operators(&self, index: u32) -> Result<Operators<'_, 'a>, Error> {
         Operators::new(self, index)
     }
@@ -384,7 +388,7 @@ impl<'a> Module<'a> {
 }
 
 impl Module<'static> {
-    /// Reads a module as [`Module::parse_with_features`], and keeps a share of its bytes.
+    /// Reads a module as [`Module::parse_with_features`] does, and keeps a share of its bytes.
     ///
     /// ```
     /// use std::collections::HashMap;
@@ -400,16 +404,16 @@ impl Module<'static> {
     ///
     /// # Errors
     ///
-    /// As of [`Module::parse`].
+    /// Those of [`Module::parse`].
     pub fn parse_shared(bytes: Arc<[u8]>, features: Features) -> Result<Module<'static>, Error> {
         Module::read(Bytes::Shared(bytes), features, Extent::Whole)
     }
 
-    /// Reads a module as [`Module::declare_with_features`], and keeps a share of its bytes.
+    /// Reads a module as [`Module::declare_with_features`] does, and keeps a share of its bytes.
     ///
     /// # Errors
     ///
-    /// As of [`Module::declare`].
+    /// Those of [`Module::declare`].
     pub fn declare_shared(bytes: Arc<[u8]>, features: Features) -> Result<Module<'static>, Error> {
         Module::read(Bytes::Shared(bytes), features, Extent::Declarations)
     }
@@ -420,7 +424,7 @@ fn place(offset: u64) -> usize {
     usize::try_from(offset).unwrap_or(usize::MAX)
 }
 
-/// A clone is cheap, and over the same memory.
+/// A clone is cheap: it shares the memory of the first.
 impl Clone for Module<'_> {
     fn clone(&self) -> Self {
         let Some(handle) = self.handle.another() else {
@@ -442,8 +446,8 @@ impl fmt::Debug for Module<'_> {
     }
 }
 
-/// Why bodies and constant expressions of a module aren't accepted, one for each that isn't ([`Module::errors`]). If
-/// there is no memory for a call, or the module was declared without bodies, that is the last error.
+/// The errors of the bodies and constant expressions that aren't accepted ([`Module::errors`]). If memory runs out, or
+/// the module was declared without bodies, that is the last error.
 pub struct Errors<'m, 'a> {
     module: &'m Module<'a>,
     position: usize,

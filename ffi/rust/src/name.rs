@@ -30,8 +30,7 @@ impl OperatorName {
         length: 0,
     };
 
-    /// The name of the operator that these bytes begin with, as far as its code tells. Vector operators have none
-    /// here.
+    /// The name of the operator that these bytes begin with, by its code alone. Vector operators have no name here.
     #[must_use]
     pub fn of_bytes(bytes: &[u8]) -> Option<OperatorName> {
         let mut text = [0; ROOM];

@@ -27,9 +27,9 @@ impl Operator<'_> {
 
 /// The operators of a body, validated as they are read ([`Module::operators`]).
 ///
-/// Between two of them, [`Operators::function`] has what lies on the stacks. After an error there are no more, and it
-/// has what lay there before the operator that was refused. The errors are those of [`Module::validate_function`], but
-/// for the text where a body ends with a frame open.
+/// Between two of them, [`Operators::function`] shows what lies on the stacks. After an error there are no more
+/// operators, and it shows what lay there before the operator that was refused. The errors are those of
+/// [`Module::validate_function`], except for the text of a body that ends with a frame open.
 ///
 /// ```
 /// use tansyattic::{Module, OperatorName};
@@ -71,7 +71,7 @@ impl<'m, 'a> Operators<'m, 'a> {
         })
     }
 
-    /// What lies on the stacks before the next operator.
+    /// The function as it is before the next operator: what lies on its stacks.
     #[must_use]
     pub fn function(&self) -> &Function<'a> {
         &self.function

@@ -33,7 +33,7 @@ macro_rules! reasons {
 }
 
 reasons! {
-    OutOfMemory 1 "There was no memory for the check.";
+    OutOfMemory 1 "Memory ran out.";
     Closed 2 "The operator's proposal is off.";
     AcquireReleaseOff 3 "The proposal `acquire_release_atomics` is off, and the operator has an ordering of it.";
     MultibyteArraysOff 4 "The proposal `multibyte_array_access` is off, and the access is to an array.";

@@ -4,7 +4,7 @@ use crate::error::Error;
 use crate::features::Features;
 use crate::module::Module;
 
-/// A check by a set of proposals, under upstream's names.
+/// A check of modules with a set of proposals on, as upstream's `Validator`.
 ///
 /// ```
 /// use tansyattic::{Features, Validator};
@@ -22,7 +22,7 @@ pub struct Validator {
 }
 
 impl Validator {
-    /// A check with the proposals of [`Features::DEFAULT`] on, as upstream's.
+    /// A check with the proposals of [`Features::DEFAULT`] on, as upstream has them.
     #[must_use]
     pub const fn new() -> Validator {
         Validator::new_with_features(Features::DEFAULT)
@@ -44,17 +44,17 @@ impl Validator {
     ///
     /// # Errors
     ///
-    /// As of [`Module::parse`] and [`Module::validate`].
+    /// Those of [`Module::parse`] and of [`Module::validate`].
     pub fn validate_all(&self, bytes: &[u8]) -> Result<(), Error> {
         Module::parse_with_features(bytes, self.features)?.validate()
     }
 }
 
-/// Checks a module, of which these are all the bytes, as [`Validator::validate_all`] of [`Validator::new`].
+/// Checks a module, of which these are all the bytes, as `Validator::new().validate_all(bytes)` does.
 ///
 /// # Errors
 ///
-/// As of it.
+/// Those of [`Validator::validate_all`].
 pub fn validate(bytes: &[u8]) -> Result<(), Error> {
     Validator::new().validate_all(bytes)
 }

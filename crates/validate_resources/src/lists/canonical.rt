@@ -346,7 +346,9 @@ pub fn canonical_all<T: Canonical>(
         → list_all (T.known count) items.now ≡ false) }
     ensures offset { IfErr result (λ e. e.offset ≡ 0) }
 {
-    let mut forms = Vec::new(alloc);
+    let Ok(mut forms) = Vec::with_capacity(alloc, items.len()) else {
+        return Err(Error::out_of_memory(0));
+    };
     for item in items {
         let form = item.canonical(alloc, count)?;
         if forms.push(form).is_err() {

@@ -17,8 +17,8 @@ loop-init g c =
       [],
       no_front (so_many reading (c.in_ok-count.count - 0) c.read_var_u32.new.self.left)
           ∙ ap (λ n. so_many reading n c.read_var_u32.new.self.left) all,
-      sym (append-nil (map g.T.Entry.unplaced c.args.items.now.items)),
-      omega arith,
+      ap (map g.T.Entry.unplaced) c.make_room.ensures.kept ∙ sym (append-nil (map g.T.Entry.unplaced c.args.items.now.items)),
+      omega (arith, ap length c.make_room.ensures.kept),
       adds_none c.args.initializers.now,
     )
 

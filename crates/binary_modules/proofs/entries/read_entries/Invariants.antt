@@ -11,6 +11,6 @@ invariant-loop g l =
     (front : List (Item _))
     × (with_front front (so_many (g.T.Entry.reading l.fn.canonical) (l.count - l.counter) l.reader.left)
     ≡ so_many (g.T.Entry.reading l.fn.canonical) l.count l.initial.reader.left)
-    × (map g.T.Entry.unplaced l.items.items ≡ map g.T.Entry.unplaced l.initial.items.items ++ declared_items front)
-    × (length l.items.items ≡ length l.initial.items.items + length front)
-    × Adds l.initial.initializers (placed (length l.initial.items.items) front) l.initializers
+    × (map g.T.Entry.unplaced l.items.items ≡ map g.T.Entry.unplaced l.fn.items.items ++ declared_items front)
+    × (length l.items.items ≡ length l.fn.items.items + length front)
+    × Adds l.initial.initializers (placed (length l.fn.items.items) front) l.initializers

@@ -2,7 +2,7 @@
 use Rattle.std.proofs.Common.{rules, ap, sym, refl, ◌∙◌, ◌≡◌, ◌+◌, ◌++◌, ◌∷◌, [], length, map, Some}
 use Rattle.std.proofs.lemmas.List.{length_push}
 use Rattle.binary_modules.specs.Groups.{written_shape}
-use Rattle.binary_modules.proofs.Grouped.{one_more_group, none_known}
+use Rattle.binary_modules.proofs.Grouped.{one_more_group}
 use Rattle.binary_modules.proofs.groups.read_types.Goals as goal
 
 pub loop-init : goal.loop-init
@@ -10,10 +10,10 @@ loop-init c = (
   [],
   refl,
   record {
-    types = c.new-section.ensures.types;
-    canonical = c.new-section.ensures.canonical;
-    written = ap (map written_shape) c.new-section.ensures.groups;
-    known = none_known c.new-groups.result.groups.items c.new-groups.ensures;
+    types = c.make_room.ensures.types ∙ c.new-section.ensures.types;
+    canonical = c.make_room.ensures.canonical ∙ c.new-section.ensures.canonical;
+    written = ap (map written_shape) (c.make_room.ensures.groups ∙ c.new-section.ensures.groups);
+    known = c.new-groups.ensures;
   },
   refl,
 )

@@ -1,12 +1,12 @@
 -- As many groups were read as the loop has turned.
 use Rattle.std.proofs.Common.{◌≡◌, List, [], length}
-use Rattle.binary_modules.specs.Groups.{Group as ReadGroup, AreGroups}
+use Rattle.binary_modules.specs.Groups.{Group, AreGroups}
 use Rattle.binary_modules.specs.Read.{HasRead}
 use Rattle.binary_modules.proofs.groups.read_types.Given as goal
 
 abbrev pub invariant-loop : goal.invariant-loop
 invariant-loop l =
-    (groups : List ReadGroup)
+    (groups : List Group)
     × AreGroups [] l.initial.reader.left groups l.reader.left
-    × HasRead l.section l.groups.groups.items groups
+    × HasRead l.section l.groups.firsts groups
     × (length groups ≡ l.counter)

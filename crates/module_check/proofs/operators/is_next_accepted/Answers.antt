@@ -15,8 +15,8 @@ pub returns-then-passes_common-clause-turn : goal.returns-then-passes_common-cla
 returns-then-passes_common-clause-turn g c = λ is.
     turn_of (g.R.WasmModuleResources.context c.args.resources.now) c.passes_common.result c.args.reader.now c.passes_common.new.reader (stacks_of c.args.v.now) (stacks_of c.passes_common.new.v) c.passes_common.ensures c.if-passes_common.true c.args.canonical.now
 
-pub is_any_accepted-is_accepted-requires : goal.is_any_accepted-is_accepted-requires
-is_any_accepted-is_accepted-requires g c =
+pub is_read_accepted-is_accepted-requires : goal.is_read_accepted-is_accepted-requires
+is_read_accepted-is_accepted-requires g c =
     let md = g.R.WasmModuleResources.context c.args.resources.now in
     let same = same_of md c.passes_common.result c.args.reader.now c.passes_common.new.reader (stacks_of c.args.v.now) (stacks_of c.passes_common.new.v) c.passes_common.ensures c.if-passes_common.false in
     subst (MayVisit md) (sym same.1) c.requires
@@ -24,7 +24,7 @@ is_any_accepted-is_accepted-requires g c =
 pub returns-clause-turn : goal.returns-clause-turn
 returns-clause-turn g c = λ accepted.
     let md = g.R.WasmModuleResources.context c.args.resources.now in
-    let next = c.is_any_accepted-is_accepted in
+    let next = c.is_read_accepted-is_accepted in
     let same = same_of md c.passes_common.result c.args.reader.now c.passes_common.new.reader (stacks_of c.args.v.now) (stacks_of c.passes_common.new.v) c.passes_common.ensures c.if-passes_common.false in
     let turn = subst (λ (s : Stacked). IsTurn md c.args.canonical.now c.duplicate.result.left next.new.reader.left s.body (state next.new.v)) same.1 (next.ensures.turn accepted) in
     let begun = subst (λ (r : Unread). IsTurn md c.args.canonical.now r.left next.new.reader.left (state c.args.v.now) (state next.new.v)) (c.duplicate.ensures ∙ same.0) turn in
@@ -34,6 +34,6 @@ pub returns-clause-refused : goal.returns-clause-refused
 returns-clause-refused g c = λ is.
     let md = g.R.WasmModuleResources.context c.args.resources.now in
     let same = same_of md c.passes_common.result c.args.reader.now c.passes_common.new.reader (stacks_of c.args.v.now) (stacks_of c.passes_common.new.v) c.passes_common.ensures c.if-passes_common.false in
-    let refusal = c.is_any_accepted-is_accepted.new.refusal in
-    let there = subst (λ (s : Stacked). IfSome refusal (λ e. IsRefusal e → ¬ AreAcceptedOperators md c.args.canonical.now (may_stand None) s.body c.duplicate.result.left)) same.1 (c.is_any_accepted-is_accepted.ensures.refused is) in
+    let refusal = c.is_read_accepted-is_accepted.new.refusal in
+    let there = subst (λ (s : Stacked). IfSome refusal (λ e. IsRefusal e → ¬ AreAcceptedOperators md c.args.canonical.now (may_stand None) s.body c.duplicate.result.left)) same.1 (c.is_read_accepted-is_accepted.ensures.refused is) in
     subst (λ (r : Unread). IfSome refusal (λ e. IsRefusal e → ¬ AreAcceptedOperators md c.args.canonical.now (may_stand None) (state c.args.v.now) r.left)) (c.duplicate.ensures ∙ same.0) there

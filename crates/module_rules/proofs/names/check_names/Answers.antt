@@ -17,7 +17,7 @@ pub returns-in-Ok-false-clause-invalid : goal.returns-in-Ok-false-clause-invalid
 returns-in-Ok-false-clause-invalid c =
     let i = c.loop-export.export-index in
     let es = c.args.exports.now in
-    let key = c.as_str.result in
+    let key = c.as_str-name.result in
     let name : key.now ≡ (get_or es i c.export-item.result).name = grind (arith, common_steps) in
     let known : list_any (bytes_eq key.now) (names_of (take i es)) ≡ true =
     sym (c.loop-export.invariant.held key) ∙ not-false _ (sym c.in-Ok-false.ensures.added ∙ c.in-Ok-false.field-0-test) in
@@ -27,7 +27,7 @@ pub loop-export-preserved : goal.loop-export-preserved
 loop-export-preserved c =
     let i = c.loop-export.export-index in
     let es = c.args.exports.now in
-    let key = c.as_str.result in
+    let key = c.as_str-name.result in
     let name : key.now ≡ (get_or es i c.export-item.result).name = grind (arith, common_steps) in
     let names = more es i c.export-item.result key.now c.loop-export-test.true name in
     let absent : list_any (bytes_eq key.now) (names_of (take i es)) ≡ false =

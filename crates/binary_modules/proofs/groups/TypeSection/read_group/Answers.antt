@@ -5,10 +5,9 @@ use Rattle.std.proofs.lemmas.List.{map-append}
 use Rattle.binary_operators.specs.declared.types.GroupNames.TheVariants.{Places, Indices}
 use Rattle.module_rules.specs.declared.items.RecGroup.{RecGroup}
 use Rattle.binary_modules.specs.SubTypes.{sub_type}
-use Rattle.binary_modules.specs.Groups.{Group as ReadGroup, canonical_of, shape, written_shape}
+use Rattle.binary_modules.specs.Groups.{Group, StandsFor, canonical_of, shape, written_shape}
 use Rattle.binary_modules.specs.Read.{HasTypes}
-use Rattle.binary_modules.specs.declared.groups.Group.{Group}
-use Rattle.binary_modules.proofs.Grouped.{so_many_length, has_group, more_types, more_canonical, is_canonical, known_more}
+use Rattle.binary_modules.proofs.Grouped.{so_many_length, has_group, more_types, more_canonical}
 use Rattle.binary_modules.proofs.groups.TypeSection.read_group.Goals as goal
 
 pub returns : goal.returns
@@ -18,13 +17,13 @@ returns c = λ before h.
     let explicit = c.in_ok-explicit.explicit in
     let count = c.in_ok-count.count in
     let first = c.in_ok-stands.stands in
-    let known = c.args.groups.now.groups.items in
-    let after = c.stand.new.self.groups.items in
-    let rolled : Group = record { first = c.in-Ok.first; types = c.in_ok-types.types } in
+    let rolled = c.in_ok-rolled.rolled.items in
+    let stood = c.in_ok-stands.ensures before h.known in
     let d = c.in_ok-declare.ensures.types in
     let read = d.0 in
-    let group : ReadGroup = record { rolled = rolled.types.items; types = read; first = first; explicit = explicit } in
+    let group : Group = record { rolled = rolled; types = read; first = first; explicit = explicit } in
     let written : RecGroup = record { count = count; explicit = explicit; offset = c.offset-offset.result } in
+    let S : ℕ → Type 0 = λ n. StandsFor before rolled n first in
     let P : List ℕ → Type 0 = λ b. HasTypes c.args.self.now.canonical.items (Indices first) count b read c.declare.new.reader.left in
     let declared = subst P (ap (λ r. r.left) c.duplicate-again.ensures) d.1 in
     let many : length read ≡ count = so_many_length (sub_type declared.types) count _ read _ declared.are_read in
@@ -32,15 +31,14 @@ returns c = λ before h.
       group = group;
       is_group = record {
         is_rolled = has_group c.deref.result.now (canonical_of before) Places bytes
-            c.read_mark.new.reader.left c.read_count.new.reader.left explicit count rolled.types.items
+            c.read_mark.new.reader.left c.read_count.new.reader.left explicit count rolled
             c.read_rolled.new.reader.left (c.deref.ensures.value ∙ h.canonical) c.in_ok-explicit.ensures.read
-            c.in_ok-count.ensures c.in_ok-types.ensures;
+            c.in_ok-count.ensures c.in_ok-rolled.ensures;
         end = c.declare.new.reader.left;
         is_declared = has_group c.args.self.now.canonical.items (canonical_of before) (Indices first) bytes
             c.read_mark.new.reader.left c.read_count.new.reader.left explicit count read
             c.declare.new.reader.left h.canonical c.in_ok-explicit.ensures.read c.in_ok-count.ensures declared;
-        is_canonical = is_canonical before known after rolled group h.known c.in_ok-stands.ensures
-            (own ∙ ap length h.canonical) refl;
+        is_canonical = subst S (own ∙ ap length h.canonical) stood.stands;
       };
       has_read = record {
         types = d.2 ∙ ap (λ l. l ++ read) h.types ∙ more_types before group;
@@ -56,6 +54,6 @@ returns c = λ before h.
             ∙ ap (λ l. l ++ written_shape written ∷ []) h.written
             ∙ ap (λ n. map shape before ++ (n, explicit) ∷ []) (sym many)
             ∙ sym (map-append shape before (group ∷ []));
-        known = known_more before known after rolled group h.known c.in_ok-stands.ensures refl;
+        known = stood.knows group refl refl;
       };
     }

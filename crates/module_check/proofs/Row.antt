@@ -1,0 +1,52 @@
+-- The row of a module's constant expressions and bodies.
+use Rattle.std.proofs.Common.{◌≡◌, ◌≤◌, ◌<◌, ◌+◌, ◌-◌, ◌^◌, ℕ, ap, get_or, sym, subst, ◌∙◌, arith}
+use Rattle.std.proofs.lemmas.Bool.{cases_lt}
+use Rattle.std.proofs.lemmas.Option.{get_or_from_slice_get, slice_get_within}
+use mathlib.Core.Logic.{◌⊎◌, inl, inr}
+use Rattle.binary_modules.specs.declared.initializers.ConstantExpression.{ConstantExpression}
+use Rattle.module_check.specs.Items.{IsSafeAt, AreSafeBelow, expression_count, function_at, item_count}
+use Rattle.module_check.specs.Loaded.{declarations, IsSafeExpression, IsSafeFunction, IsSafeModule, IsValid}
+use Rattle.module_check.specs.declared.loaded.LoadedModule.{LoadedModule}
+use Rattle.module_check.proofs.Counted.{few_functions}
+
+module _ (m : LoadedModule) where
+  -- one more
+  pub one_more : (end : ℕ) → AreSafeBelow m end → IsSafeAt m end → AreSafeBelow m (end + 1)
+  one_more end before this place within = elim (cases_lt place end) [ inl below ↦ before place below | inr past ↦ subst (IsSafeAt m) (omega (arith, past, within)) this ]
+
+  -- what stands at a place among the constant expressions is safe where that expression is
+  pub expression_safe : (place : ℕ) (e : ConstantExpression) → place < expression_count m → e ≡ get_or m.expressions.items place e → IsSafeExpression m e → IsSafeAt m place
+  expression_safe place e inside is_there safe = record {
+    expression = λ f is. subst (IsSafeExpression m) (is_there ∙ get_or_from_slice_get m.expressions.items place f e is) safe;
+    body = λ past within fits. absurd (omega (arith, past, inside));
+  }
+
+  -- what stands behind them is safe where the function is whose body stands there
+  pub body_safe : (place behind function : ℕ) → expression_count m ≤ place → behind ≡ place - expression_count m → (m.declared.imports.functions + behind < 2 ^ 32 → function ≡ m.declared.imports.functions + behind) → IsSafeFunction m function → IsSafeAt m place
+  body_safe place behind function past is_behind is_index safe = record {
+    expression = λ e is. absurd (omega (arith, past, slice_get_within m.expressions.items place e is));
+    body = λ _ _ fits. subst (IsSafeFunction m) (is_index (subst (λ n. m.declared.imports.functions + n < 2 ^ 32) (sym is_behind) fits) ∙ ap (λ n. m.declared.imports.functions + n) is_behind) safe;
+  }
+
+  -- where all that stands in the row is safe, each function that isn't imported is, and each constant expression
+  all_safe : (end : ℕ) → item_count m ≤ end → AreSafeBelow m end → IsSafeModule m
+  all_safe end enough safe = record {
+    functions = λ function own there.
+        let few = few_functions m.features (declarations m) m.valid in
+        let place = expression_count m + (function - m.declared.imports.functions) in
+        let counted = m.counted in
+        let past : expression_count m ≤ place = omega arith in
+        let within : place < item_count m = omega (arith, counted, there, own) in
+        let same : function_at m place ≡ function = omega (arith, own) in
+        let small : function_at m place < 2 ^ 32 = omega (arith, few, there, same) in
+        subst (IsSafeFunction m) same ((safe place (omega (arith, within, enough))).body past within small);
+    expressions = λ place e within is. (safe place (omega (arith, within, enough))).expression e is;
+  }
+
+  pub valid : (end : ℕ) → item_count m ≤ end → AreSafeBelow m end → IsValid m
+  valid end enough safe = record {
+    is_module = m.read;
+    declarations_valid = m.valid;
+    is_lookup = m.lookup;
+    code_safe = all_safe end enough safe;
+  }

@@ -1,0 +1,11 @@
+pub mod Answered
+pub mod Begun
+pub mod Both
+pub mod Bytes
+pub mod Fieldless
+pub mod Readings
+pub mod Rows
+pub mod Taken
+pub mod Untaken
+pub mod Values
+pub mod Words

@@ -1,0 +1,11 @@
+pub mod Bodies
+pub mod Calls
+pub mod FunctionCalls
+pub mod FunctionInside
+pub mod Functions
+pub mod Handle
+pub mod Items
+pub mod Modules
+pub mod Operators
+pub mod Shown
+pub mod VisitsMade

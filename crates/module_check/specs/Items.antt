@@ -1,7 +1,7 @@
 -- The constant expressions and bodies of a module in one row (the crate's own).
 use Rattle.std.specs.Prelude.{◌≡◌, ℕ, ◌+◌, ◌-◌, ◌^◌, ◌≤◌, ◌<◌, Some, length, slice_get}
 use Rattle.binary_modules.specs.declared.initializers.ConstantExpression.{ConstantExpression}
-use Rattle.module_check.specs.Loaded.{IsSafeFunction, IsSafeExpression}
+use Rattle.module_check.specs.Loaded.{IsAcceptedExpression, IsAcceptedFunction, IsSafeFunction, IsSafeExpression}
 use Rattle.module_check.specs.declared.loaded.LoadedModule.{LoadedModule}
 use Rattle.module_check.specs.declared.verdict.Item.{Item}
 use Rattle.module_check.specs.declared.verdict.Item.TheVariants.{Function, Expression}
@@ -34,6 +34,13 @@ pub record IsSafeAt (m : LoadedModule) (place : ℕ) : Type 0 where
   pub body : expression_count m ≤ place → place < item_count m → function_at m place < 2 ^ 32
       → IsSafeFunction m (function_at m place)
 
--- each of the first so many is
+-- What stands at this place of the row, if something does, isn't accepted.
+pub record IsRefusedAt (m : LoadedModule) (place : ℕ) : Type 0 where
+  pub expression : (e : ConstantExpression) → slice_get m.expressions.items place ≡ Some e
+      → ¬ IsAcceptedExpression m e
+  pub body : expression_count m ≤ place → function_at m place < 2 ^ 32
+      → ¬ IsAcceptedFunction m (function_at m place)
+
+-- each of the first so many is safe
 abbrev pub AreSafeBelow : LoadedModule → ℕ → Type 0
 AreSafeBelow m end = (place : ℕ) → place < end → IsSafeAt m place

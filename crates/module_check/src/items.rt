@@ -1,7 +1,7 @@
 //! What a module has to check, in one row: first its constant expressions, then the bodies of its functions.
 
 ghost use Rattle.std.specs.Prelude.{◌≡◌, ◌≢◌, ◌≤◌, ◌<◌};
-ghost use Rattle.module_check.specs.Items.{IsItemAt, IsSafeAt, item_count};
+ghost use Rattle.module_check.specs.Items.{IsItemAt, IsRefusedAt, IsSafeAt, item_count};
 ghost use Rattle.module_check.specs.Loaded.{IsAcceptedModule};
 ghost use Rattle.module_check.specs.declared.verdict.Verdict.TheVariants.{Accepted, OutOfMemory};
 
@@ -33,7 +33,8 @@ pub fn item_count(module: &LoadedModule<'_>) -> usize
 pub fn check_item(module: &LoadedModule<'_>, place: usize, buffers: &mut BodyBuffers) -> Checked
     ensures item { IsItemAt module.now place result.item }
     ensures safe { result.verdict ≡ Accepted → IsSafeAt module.now place }
-    ensures refused { place < item_count module.now → result.verdict ≢ Accepted → result.verdict ≢ OutOfMemory
+    ensures refused { result.verdict ≢ Accepted → result.verdict ≢ OutOfMemory → IsRefusedAt module.now place }
+    ensures unaccepted { place < item_count module.now → result.verdict ≢ Accepted → result.verdict ≢ OutOfMemory
         → ¬ IsAcceptedModule module.now }
 {
     let expressions = module.expressions();

@@ -1,7 +1,7 @@
 -- What stands there is a constant expression, or a body behind them all.
 use Rattle.std.proofs.Common.{◌≤◌, ◌<◌, ◌-◌, ap, get_or, length, subst, ◌∙◌}
 use Rattle.module_check.proofs.Counted.{accepted_body, accepted_there}
-use Rattle.module_check.proofs.Row.{body_safe, expression_safe}
+use Rattle.module_check.proofs.Row.{body_refused, body_safe, expression_refused, expression_safe}
 use Rattle.module_check.proofs.items.check_item.Goals as goal
 
 pub returns-in-Some-clause-safe : goal.returns-in-Some-clause-safe
@@ -12,7 +12,14 @@ returns-in-Some-clause-safe c accepted =
     expression_safe c.args.module.now place c.in-Some.expression.now (subst (λ n. place < n) (ap length listed) found.3.0) (found.1 ∙ ap (λ es. get_or es place c.in-Some.expression.now) listed) (c.check_expression.ensures.safe accepted)
 
 pub returns-in-Some-clause-refused : goal.returns-in-Some-clause-refused
-returns-in-Some-clause-refused c _ refused memory accepted =
+returns-in-Some-clause-refused c refused memory =
+    let place = c.args.place in
+    let listed = c.expressions-expressions.ensures in
+    let found = c.in-Some.ensures.lookup in
+    expression_refused c.args.module.now place c.in-Some.expression.now (subst (λ n. place < n) (ap length listed) found.3.0) (found.1 ∙ ap (λ es. get_or es place c.in-Some.expression.now) listed) (c.check_expression.ensures.refused refused memory)
+
+pub returns-in-Some-clause-unaccepted : goal.returns-in-Some-clause-unaccepted
+returns-in-Some-clause-unaccepted c _ refused memory accepted =
     let place = c.args.place in
     let listed = c.expressions-expressions.ensures in
     let found = c.in-Some.ensures.lookup in
@@ -25,7 +32,13 @@ returns-in-None-clause-safe c accepted =
     body_safe c.args.module.now place _ _ (subst (λ n. n ≤ place) count c.in-None.ensures.lookup.3) (c.saturating_sub.ensures ∙ ap (λ n. place - n) count) c.function_of-function.ensures (c.check_function.ensures.safe accepted)
 
 pub returns-in-None-clause-refused : goal.returns-in-None-clause-refused
-returns-in-None-clause-refused c within refused memory accepted =
+returns-in-None-clause-refused c refused memory =
+    let place = c.args.place in
+    let count = ap length c.expressions-expressions.ensures in
+    body_refused c.args.module.now place _ _ (subst (λ n. n ≤ place) count c.in-None.ensures.lookup.3) (c.saturating_sub.ensures ∙ ap (λ n. place - n) count) c.function_of-function.ensures (c.check_function.ensures.refused refused memory)
+
+pub returns-in-None-clause-unaccepted : goal.returns-in-None-clause-unaccepted
+returns-in-None-clause-unaccepted c within refused memory accepted =
     let place = c.args.place in
     let count = ap length c.expressions-expressions.ensures in
     c.check_function.ensures.refused refused memory (accepted_body c.args.module.now place _ _ (subst (λ n. n ≤ place) count c.in-None.ensures.lookup.3) within (c.saturating_sub.ensures ∙ ap (λ n. place - n) count) c.function_of-function.ensures accepted)

@@ -16,7 +16,7 @@ loop-place-preserved c = record {
         | inl before ↦ c.loop-place.invariant.refused before
         | inr this ↦ inr (
             let within : c.loop-place.place < item_count c.args.module.now = omega (arith, c.loop-place-test.true, c.item_count-place-end.ensures) in
-            c.check_item-checked.ensures.refused within this.0 this.1)
+            c.check_item-checked.ensures.unaccepted within this.0 this.1)
       ];
 }
 

@@ -1,0 +1,117 @@
+-- What a status says of an answer.
+use Rattle.std.proofs.Common.{◌≡◌, ◌≢◌, ◌≤◌, ℕ, List, Result, Ok, Err, IfOk, IfErr, OnErr, inl, inr, ap, ◌∙◌, sym, refl, subst, arith}
+use Rattle.std.specs.Prelude.{◌⊎◌, MatchResult}
+use Rattle.module_check.specs.Verdicts.{status_of}
+use Rattle.module_check.specs.declared.verdict.Verdict.{Verdict}
+use Rattle.module_check.specs.declared.verdict.Verdict.TheVariants.{Accepted, Refused, Malformed, NotCovered, OutOfMemory}
+use Rattle.validate_func.specs.Functions.{Fails}
+use Rattle.c_api.specs.FunctionCalls.{OpAnswer, TryAnswer}
+use Rattle.c_api.specs.Functions.{InProgress, Takes, CannotTake}
+
+-- the status of a verdict that isn't acceptance, and of one at all
+not_accepted : (v : Verdict) → v ≢ Accepted → status_of v ≡ 0 → ⊥
+not_accepted Accepted h z = h refl
+not_accepted (Refused e) h z = omega (arith, z)
+not_accepted (Malformed e) h z = omega (arith, z)
+not_accepted (NotCovered at) h z = omega (arith, z)
+not_accepted OutOfMemory h z = omega (arith, z)
+
+at_most_four : (v : Verdict) → status_of v ≤ 4
+at_most_four Accepted = omega arith
+at_most_four (Refused e) = omega arith
+at_most_four (Malformed e) = omega arith
+at_most_four (NotCovered at) = omega arith
+at_most_four OutOfMemory = omega arith
+
+not_zero : (s : ℕ) → s ≡ 0 → (s ≡ 1) ⊎ (s ≡ 2) → ⊥
+not_zero s z d = elim d [ inl a ↦ omega (arith, z, a) | inr b ↦ omega (arith, z, b) ]
+
+not_three : (s : ℕ) → s ≡ 3 → (s ≡ 1) ⊎ (s ≡ 2) → ⊥
+not_three s z d = elim d [ inl a ↦ omega (arith, z, a) | inr b ↦ omega (arith, z, b) ]
+
+not_other : (s n : ℕ) → s ≡ n → n ≢ 1 → n ≢ 2 → n ≢ 3 → (s ≡ 1) ⊎ ((s ≡ 2) ⊎ (s ≡ 3)) → ⊥
+not_other s n z a b c d = elim d [ inl e ↦ a (sym z ∙ e) | inr d ↦ elim d [ inl e ↦ b (sym z ∙ e) | inr e ↦ c (sym z ∙ e) ] ]
+
+-- the status is that of the answer, with which goes how many bytes were taken
+abbrev pub Tells : Result ℕ Verdict → ℕ → ℕ → ℕ → Type 0
+Tells r s n k = MatchResult r (λ count. (s ≡ 0) × (n ≡ count)) (λ v. (s ≡ status_of v) × (n ≡ k))
+
+refused : (r : Result ℕ Verdict) (s n k : ℕ) (P : Type 0) → Tells r s n k → IfErr r (λ v. v ≢ OutOfMemory → P) → (s ≡ 1) ⊎ (s ≡ 2) → P
+refused (Ok c) s n k P t h d = absurd (not_zero s t.0 d)
+refused (Err v) s n k P t h d = h (λ e. not_three s (t.0 ∙ ap status_of e) d)
+
+failed : (r : Result ℕ Verdict) (s n k : ℕ) (P : Type 0) → Tells r s n k → IfErr r (λ v. ((at : ℕ) → v ≢ NotCovered at) → P) → (s ≡ 1) ⊎ ((s ≡ 2) ⊎ (s ≡ 3)) → P
+failed (Ok c) s n k P t h d = absurd (not_other s 0 t.0 (λ e. omega (arith, e)) (λ e. omega (arith, e)) (λ e. omega (arith, e)) d)
+failed (Err v) s n k P t h d = h (λ at e. not_other s 4 (t.0 ∙ ap status_of e) (λ e. omega (arith, e)) (λ e. omega (arith, e)) (λ e. omega (arith, e)) d)
+
+uncovered : (r : Result ℕ Verdict) (s n k : ℕ) (P : Type 0) → Tells r s n k → IfErr r (λ v. (at : ℕ) → v ≡ NotCovered at → P) → s ≡ 4 → P
+uncovered (Ok c) s n k P t h d = absurd (omega (arith, t.0, d))
+uncovered (Err (NotCovered at)) s n k P t h d = h at refl
+uncovered (Err Accepted) s n k P t h d = absurd (omega (arith, t.0, d))
+uncovered (Err (Refused e)) s n k P t h d = absurd (omega (arith, t.0, d))
+uncovered (Err (Malformed e)) s n k P t h d = absurd (omega (arith, t.0, d))
+uncovered (Err OutOfMemory) s n k P t h d = absurd (omega (arith, t.0, d))
+
+back : (r : Result ℕ Verdict) (s n k : ℕ) (P : Type 0) → Tells r s n k → OnErr r P → s ≢ 0 → P
+back (Ok c) s n k P t h d = absurd (d t.0)
+back (Err v) s n k P t h d = h
+
+none_taken : (r : Result ℕ Verdict) (s n k : ℕ) → Tells r s n k → s ≢ 0 → n ≡ k
+none_taken (Ok c) s n k t d = absurd (d t.0)
+none_taken (Err v) s n k t d = t.1
+
+accepted : (r : Result ℕ Verdict) (s n k : ℕ) (P : ℕ → Type 0) → Tells r s n k → IfOk r P → IfErr r (λ v. v ≢ Accepted) → s ≡ 0 → P n
+accepted (Ok c) s n k P t p h z = subst P (sym t.1) p
+accepted (Err v) s n k P t p h z = absurd (not_accepted v h (sym t.0 ∙ z))
+
+known : (r : Result ℕ Verdict) (s n k : ℕ) → Tells r s n k → s ≤ 4
+known (Ok c) s n k t = omega (arith, t.0)
+known (Err v) s n k t = omega (arith, t.0, at_most_four v)
+
+module _ (bytes : List ℕ) (offset n s : ℕ) (f g : InProgress) where
+  -- an operator that is taken
+  pub took : s ≡ 0 → Takes bytes offset n f g → OpAnswer bytes offset n s f g
+  took z t = record {
+    accepted = λ _. t;
+    refused = λ d. absurd (not_zero s z d);
+    failed = λ d. absurd (not_other s 0 z (λ e. omega (arith, e)) (λ e. omega (arith, e)) (λ e. omega (arith, e)) d);
+    uncovered = λ d. absurd (omega (arith, z, d));
+    none_taken = λ d. absurd (d z);
+    known = omega (arith, z);
+  }
+
+  pub took_at_once : s ≡ 0 → Takes bytes offset n f g → TryAnswer bytes offset n s f g
+  took_at_once z t = record {
+    accepted = λ _. t;
+    refused = λ d. absurd (not_zero s z d);
+    back = λ d. absurd (d z);
+    none_taken = λ d. absurd (d z);
+    known = omega (arith, z);
+  }
+
+  module _ (r : Result ℕ Verdict) (t : Tells r s n 0) (taken : IfOk r (λ count. Takes bytes offset count f g)) (refuses : IfErr r (λ v. v ≢ Accepted)) (cannot : IfErr r (λ v. v ≢ OutOfMemory → CannotTake bytes f)) where
+    -- what a call of `op` answers
+    pub op_answer : IfErr r (λ v. ((at : ℕ) → v ≢ NotCovered at) → Fails f g) → IfErr r (λ v. (at : ℕ) → v ≡ NotCovered at → g ≡ f) → OpAnswer bytes offset n s f g
+    op_answer fails same = record {
+      accepted = accepted r s n 0 (λ count. Takes bytes offset count f g) t taken refuses;
+      refused = refused r s n 0 (CannotTake bytes f) t cannot;
+      failed = failed r s n 0 (Fails f g) t fails;
+      uncovered = uncovered r s n 0 (g ≡ f) t same;
+      none_taken = none_taken r s n 0 t;
+      known = known r s n 0 t;
+    }
+
+    -- and one of `try_op`
+    pub try_answer : OnErr r (g ≡ f) → TryAnswer bytes offset n s f g
+    try_answer same = record {
+      accepted = accepted r s n 0 (λ count. Takes bytes offset count f g) t taken refuses;
+      refused = refused r s n 0 (CannotTake bytes f) t cannot;
+      back = back r s n 0 (g ≡ f) t same;
+      none_taken = none_taken r s n 0 t;
+      known = known r s n 0 t;
+    }
+
+-- the same without bytes
+pub undone : (r : Result (Unit {0}) Verdict) (s : ℕ) (P : Type 0) → MatchResult r (λ _. s ≡ 0) (λ v. s ≡ status_of v) → OnErr r P → s ≢ 0 → P
+undone (Ok x) s P t h d = absurd (d t)
+undone (Err v) s P t h d = h

@@ -1,0 +1,59 @@
+-- The operator joins the list, or none can be taken.
+use Rattle.std.proofs.Common.{◌≡◌, ◌∙◌, true, false, refl, sym, ap, subst}
+use Rattle.validate_body.specs.Start.{state}
+use Rattle.validate_func.specs.Functions.{function_state, body_state, unmarked, IsStaticRun}
+use Rattle.validate_stacks.specs.State.{IsValidBody}
+use Rattle.c_api.specs.Functions.{InProgress, module_under, Takes}
+use Rattle.c_api.specs.Modules.{context_in}
+use Rattle.c_api.specs.Operators.{HasNoRow}
+use Rattle.c_api.specs.VisitsMade.{IsVisited}
+use Rattle.c_api.proofs.Untaken.{sound_failed}
+use Rattle.c_api.proofs.Taken.{sound, takes, some_taken}
+use Rattle.c_api.proofs.function.FunctionInProgress.visit.Goals as goal
+
+pub invariant_of-self : goal.invariant_of-self
+invariant_of-self c =
+    let f = c.self.inside in
+    let w = c.visit.new.self in
+    let x = subst (λ h. IsVisited h c.args.bytes.now c.args.offset c.in-Ok.taken f.visits w) c.deref.ensures c.in-Ok.ensures.accepted in
+    let run = subst (λ (g : InProgress). IsStaticRun (context_in (module_under g)) g) (sym c.self.view_is) c.requires.run in
+    let valid = subst (λ h. IsValidBody (context_in h) (state w.validator)) c.deref.ensures c.visit.ensures.valid in
+    record {
+      sound = sound f.module f.first_frame f.visits w c.args.bytes.now c.args.offset c.in-Ok.taken f.failed false x c.visit.ensures.kept refl c.self.invariant.sound run valid;
+      none_before = λ (e : true ≡ false). absurd cc;
+      some_before = λ _. some_taken f.module f.first_frame f.visits w c.args.bytes.now c.args.offset c.in-Ok.taken f.failed false x c.visit.ensures.kept refl;
+    }
+
+pub invariant_of-self-in-Err-Refused : goal.invariant_of-self-in-Err-Refused
+invariant_of-self-in-Err-Refused c =
+    let f = c.self.inside in
+    let w = c.visit.new.self in
+    let marked : f.failed ≡ true = ap (λ (g : InProgress). g.failed) c.self.view_is ∙ c.requires.marked in
+    let same = ap (λ (a : _). a.operators) c.in-Err-Refused.ensures.list in
+    let valid = subst (λ h. IsValidBody (context_in h) (state w.validator)) c.deref.ensures c.visit.ensures.valid in
+    record {
+      sound = sound_failed (context_in _) f.first_frame (state f.visits.validator) (state w.validator) f.visits.accepted.operators w.accepted.operators f.failed f.failed c.self.invariant.sound c.visit.ensures.kept valid same marked;
+      none_before = λ e. same ∙ c.self.invariant.none_before e;
+      some_before = λ e none. c.self.invariant.some_before e (sym same ∙ none);
+    }
+
+pub returns-in-Ok-clause-accepted : goal.returns-in-Ok-clause-accepted
+returns-in-Ok-clause-accepted c =
+    let f = c.self.inside in
+    let w = c.visit.new.self in
+    let x = subst (λ h. IsVisited h c.args.bytes.now c.args.offset c.in-Ok.taken f.visits w) c.deref.ensures c.in-Ok.ensures.accepted in
+    let new : InProgress = function_state f.module f.first_frame (state w.validator) w.accepted.operators false in
+    subst (λ (g : InProgress). Takes c.args.bytes.now c.args.offset c.in-Ok.taken (unmarked g) new) c.self.view_is
+    (takes f.module f.first_frame f.visits w c.args.bytes.now c.args.offset c.in-Ok.taken false false x c.visit.ensures.kept refl refl)
+
+pub returns-in-Err-Unread-clause-cannot : goal.returns-in-Err-Unread-clause-cannot
+returns-in-Err-Unread-clause-cannot c = λ memory none_failed open_frame.
+    subst (λ (g : InProgress). HasNoRow (module_under g) c.args.bytes.now (body_state g)) c.self.view_is
+    (subst (λ h. HasNoRow h c.args.bytes.now (state c.self.inside.visits.validator)) c.deref.ensures
+    (c.in-Err-Unread.ensures.refused (rw c.in-Err-Unread.field-0-is (c.unread.ensures.memory (λ m. memory (c.under-verdict.ensures.memory.1 m))))))
+
+pub returns-in-Err-Refused-clause-cannot : goal.returns-in-Err-Refused-clause-cannot
+returns-in-Err-Refused-clause-cannot c = λ memory none_failed open_frame.
+    subst (λ (g : InProgress). HasNoRow (module_under g) c.args.bytes.now (body_state g)) c.self.view_is
+    (subst (λ h. HasNoRow h c.args.bytes.now (state c.self.inside.visits.validator)) c.deref.ensures
+    (c.in-Err-Refused.ensures.refused (rw c.in-Err-Refused.field-0-is (c.of_refusal.ensures.memory memory))))

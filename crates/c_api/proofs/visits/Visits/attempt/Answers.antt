@@ -1,0 +1,35 @@
+-- What is looked up is what the module declares.
+use Rattle.std.proofs.Common.{Ok, Err, sym, subst}
+use Rattle.std.proofs.lemmas.Result.{err_from_is_err_and}
+use Rattle.validate_body.proofs.Listed.{not_visited}
+use Rattle.validate_body.specs.Start.{state, stacks_of}
+use Rattle.validate_stacks.specs.State.{IsValidBody}
+use Rattle.validate_stacks.specs.Visits.{Meets, MayVisit}
+use Rattle.validation_rules.specs.Operators.{operator}
+use Rattle.c_api.specs.Modules.{context_in}
+use Rattle.c_api.proofs.Readings.{no_row}
+use Rattle.c_api.proofs.visits.Visits.attempt.Goals as goal
+
+pub try_op-requires-clause-visit : goal.try_op-requires-clause-visit
+try_op-requires-clause-visit c = subst (λ md. MayVisit md (stacks_of c.args.self.now.validator)) (sym c.resources.ensures) c.requires.visit
+
+pub returns-in_err-try_op-clause-refused : goal.returns-in_err-try_op-clause-refused
+returns-in_err-try_op-clause-refused c =
+    let p = err_from_is_err_and c.from_residual-in_err-try_op.result c.from_residual-in_err-try_op.ensures.1 in
+    let v = state c.args.self.now.validator in
+    let w = state c.try_op.new.v in
+    let e = c.in_err-try_op.field-0.0 in
+    let row = subst (λ md. Meets md (λ cx. operator cx c.read_into.new.op) c.args.offset v (Err e) w) c.resources.ensures c.in_err-try_op.ensures.meets in
+    rw (p.1, p.2) (λ refusal. no_row c.args.module.now c.args.bytes.now v c.read_into.new.op c.in_ok-taken.taken c.in_ok-taken.ensures.read
+    (not_visited (context_in c.args.module.now) c.read_into.new.op c.args.offset v w e row refusal))
+
+pub returns-clause-accepted : goal.returns-clause-accepted
+returns-clause-accepted c = record {
+  op = c.read_into.new.op;
+  is_operator = c.in_ok-taken.ensures.read;
+  meets = subst (λ md. Meets md (λ cx. operator cx c.read_into.new.op) c.args.offset (state c.args.self.now.validator) (Ok tt) (state c.try_op.new.v)) c.resources.ensures c.in_ok-try_op.ensures.meets;
+  joins = c.and-self.ensures;
+}
+
+pub returns-clause-valid : goal.returns-clause-valid
+returns-clause-valid c = subst (λ md. IsValidBody md (state c.try_op.new.v)) c.resources.ensures c.try_op.ensures.valid

@@ -1,0 +1,49 @@
+-- What the calls on a function say (the crate's own).
+use Rattle.std.specs.Prelude.{◌≡◌, ◌≢◌, ◌≤◌, ◌⊎◌, ℕ, List, None, Some}
+use Rattle.validate_func.specs.Functions.{Fails}
+use Rattle.c_api.specs.Functions.{InProgress, Takes, CannotTake}
+use Rattle.c_api.specs.Handle.{MaybeKept}
+use Rattle.c_api.specs.declared.kept.Kept.TheVariants.{Module, Function}
+
+-- there is a function, and this holds of it
+abbrev pub OnFunction : MaybeKept → (InProgress → Type 0) → Type 0
+OnFunction None p = ⊥
+OnFunction (Some (Module s)) p = ⊥
+OnFunction (Some (Function f)) p = p f
+
+-- this holds of the function, if there is one
+abbrev pub OfFunction : MaybeKept → (InProgress → Type 0) → Type 0
+OfFunction None p = Unit {0}
+OfFunction (Some (Module s)) p = Unit {0}
+OfFunction (Some (Function f)) p = p f
+
+-- there is no function
+abbrev pub HasNoFunction : MaybeKept → Type 0
+HasNoFunction None = Unit {0}
+HasNoFunction (Some (Module s)) = Unit {0}
+HasNoFunction (Some (Function f)) = ⊥
+
+-- there is a function before and after, and this holds of the two
+abbrev pub Becomes : MaybeKept → MaybeKept → (InProgress → InProgress → Type 0) → Type 0
+Becomes f g p = OnFunction f (λ x. OnFunction g (λ y. p x y))
+
+-- of the two functions, if there is one before, this holds
+abbrev pub OfBoth : MaybeKept → MaybeKept → (InProgress → InProgress → Type 0) → Type 0
+OfBoth f g p = OfFunction f (λ x. OnFunction g (λ y. p x y))
+
+-- what a status says of an operator, and how many bytes were taken
+pub record OpAnswer (bytes : List ℕ) (offset taken status : ℕ) (f g : InProgress) : Type 0 where
+  pub accepted : status ≡ 0 → Takes bytes offset taken f g
+  pub refused : (status ≡ 1) ⊎ (status ≡ 2) → CannotTake bytes f
+  pub failed : (status ≡ 1) ⊎ (status ≡ 2) ⊎ (status ≡ 3) → Fails f g
+  pub uncovered : status ≡ 4 → g ≡ f
+  pub none_taken : status ≢ 0 → taken ≡ 0
+  pub known : status ≤ 4
+
+-- the same of one that is attempted
+pub record TryAnswer (bytes : List ℕ) (offset taken status : ℕ) (f g : InProgress) : Type 0 where
+  pub accepted : status ≡ 0 → Takes bytes offset taken f g
+  pub refused : (status ≡ 1) ⊎ (status ≡ 2) → CannotTake bytes f
+  pub back : status ≢ 0 → g ≡ f
+  pub none_taken : status ≢ 0 → taken ≡ 0
+  pub known : status ≤ 4

@@ -1,0 +1,576 @@
+//! The calls of C on a module.
+
+ghost use Rattle.std.specs.Prelude.{◌≡◌, ◌≢◌, ◌⊎◌, ◌≤◌, ◌<◌, ◌-◌, ◌^◌, ◌↔◌, length, min, true, false, None, Some, IsOk, IfOk, IfErr, IfSome};
+ghost use Rattle.module_check.specs.Loaded.{IsAcceptedFunction, IsAcceptedModule, IsSafeFunction, IsValid};
+ghost use Rattle.module_check.specs.Verdicts.{IsConsistent, Reports, SaysNo};
+ghost use Rattle.module_check.specs.declared.verdict.Item.TheVariants.{Function};
+ghost use Rattle.module_check.specs.declared.verdict.Verdict.TheVariants.{Accepted};
+ghost use Rattle.c_api.specs.Calls.{OnWhole, OfWhole, OnHeld, OnModule, OfModule, OnDeclared, HaveTheSame};
+ghost use Rattle.c_api.specs.Calls.{OfHeld};
+ghost use Rattle.c_api.specs.Calls.{IsLoadedFrom, IsValidModuleOf, AreDeclaredFrom};
+ghost use Rattle.c_api.specs.Calls.{HasNoModule, HasNoBody, IsDeclared};
+ghost use Rattle.c_api.specs.Items.{AreSafeFrom, IsReported};
+ghost use Rattle.c_api.specs.Modules.{module_of, functions_in, imported_functions_in};
+ghost use Rattle.c_api.specs.declared.shared.HeldModule.TheVariants.{Whole};
+
+use crate::handle::Handle;
+use crate::items::check_from;
+use crate::kept::Kept;
+use crate::shared::{HeldModule, SharedModule};
+use module_check::{
+    BodyBuffers, Item, LoadedDeclarations, LoadedModule, ModuleFeatures, ModuleVerdict, NO_BODY,
+    NOT_LOADED, OUT_OF_MEMORY, VALID, Verdict, check_module,
+};
+use std::alloc::Global;
+use std::sync::Arc;
+use validate_types::Flags;
+
+/// The status of a verdict.
+pub(crate) fn status_of(verdict: &ModuleVerdict) -> u32
+    ensures { result ≡ verdict.now.status }
+{
+    verdict.status
+}
+
+/// Reads a module, of which these are all the bytes, and checks that what it declares is valid under these proposals:
+/// bits that stand for none say nothing.
+fn read<'a>(alloc: Global, bytes: &'a [u8], features: u32) -> Result<LoadedModule<'a>, Verdict>
+    ensures loaded { IfOk result (IsLoadedFrom bytes.now features) }
+    ensures refused { IfErr result (λ verdict. verdict ≢ Accepted) }
+{
+    LoadedModule::new(alloc, bytes, ModuleFeatures::from_bits_truncate(features))
+}
+
+/// Checks each body and each constant expression of a module.
+fn check_all(alloc: Global, module: &LoadedModule<'_>, text: &mut [u8], out: &mut ModuleVerdict)
+    requires { IsConsistent (length text.old) out.old }
+    ensures consistent { IsConsistent (length text.new) out.new }
+    ensures valid { out.new.status ≡ 0 → IsValid «module».now }
+    ensures refused { SaysNo out.new.status → SaysNo out.old.status ⊎ ¬ IsAcceptedModule «module».now }
+    ensures known { out.old.status ≤ 4 → out.new.status ≤ 4 }
+{
+    check_module(module, &mut BodyBuffers::new(alloc), text, out);
+}
+
+/// Checks a module that was read, or notes why it wasn't.
+fn check_read(
+    alloc: Global,
+    read: &Result<LoadedModule<'_>, Verdict>,
+    text: &mut [u8],
+    out: &mut ModuleVerdict,
+)
+    requires consistent { IsConsistent (length text.old) out.old }
+    requires refused { IfErr read.now (λ verdict. verdict ≢ Accepted) }
+    ensures consistent { IsConsistent (length text.new) out.new }
+    ensures read { out.new.status ≡ 0 → IsOk read.now }
+    ensures valid { out.new.status ≡ 0 → IfOk read.now IsValid }
+    ensures known { out.old.status ≤ 4 → out.new.status ≤ 4 }
+{
+    match read {
+        Ok(module) => check_all(alloc, module, text, out),
+        Err(verdict) => out.note(verdict, None, text),
+    }
+}
+
+/// Checks a module, of which these are all the bytes, under these proposals: what it declares, each body and each
+/// constant expression. It writes the totals to `out`, and to `text` the text of the first finding of the gravest kind,
+/// cut to the room there. It answers the status: where that is 0, the module is valid.
+pub fn validate(
+    alloc: Global,
+    bytes: &[u8],
+    features: u32,
+    text: &mut [u8],
+    out: &mut ModuleVerdict,
+) -> u32
+    ensures status { result ≡ out.new.status }
+    ensures consistent { IsConsistent (length text.new) out.new }
+    ensures valid { result ≡ 0 → IsValidModuleOf bytes.now features }
+    ensures known { result ≤ 4 }
+{
+    *out = ModuleVerdict::new();
+    check_read(alloc, &read(alloc, bytes, features), text, out);
+    status_of(out)
+}
+
+/// Frees what a handle has.
+pub fn free(alloc: Global, handle: &mut Handle)
+    ensures { handle.new.held ≡ None }
+{
+    drop(handle.take(alloc));
+}
+
+/// Puts a module that is shared, or a function, into a handle. Answers whether there was memory for it; else the handle
+/// stays as it was.
+pub(crate) fn keep(alloc: Global, kept: Kept, handle: &mut Handle) -> bool
+    ensures kept { result ≡ true → handle.new.held ≡ Some kept }
+    ensures unchanged { result ≡ false → handle.new.held ≡ handle.old.held }
+{
+    match Box::new(alloc, kept) {
+        Ok(kept) => {
+            handle.put(alloc, kept);
+            true
+        }
+        Err(_) => false,
+    }
+}
+
+/// Reads a module into a handle, of which these are all the bytes, and checks that what it declares is valid under these
+/// proposals. Where the status is 0, the handle has it, and what it had before is freed; else it stays as it was.
+pub fn load(
+    alloc: Global,
+    bytes: &'static [u8],
+    features: u32,
+    handle: &mut Handle,
+    text: &mut [u8],
+    out: &mut ModuleVerdict,
+) -> u32
+    ensures status { result ≡ out.new.status }
+    ensures consistent { IsConsistent (length text.new) out.new }
+    ensures loaded { result ≡ 0 → OnModule handle.new.held (IsLoadedFrom bytes.now features) }
+    ensures unchanged { result ≢ 0 → handle.new.held ≡ handle.old.held }
+    ensures known { result ≤ 4 }
+{
+    *out = ModuleVerdict::new();
+    match read(alloc, bytes, features) {
+        Ok(module) => {
+            if !keep_new(alloc, HeldModule::Whole(module), handle) {
+                out.report(OUT_OF_MEMORY, None, 0, "out of memory", text);
+            }
+        }
+        Err(verdict) => out.note(&verdict, None, text),
+    }
+    status_of(out)
+}
+
+/// Reads what a module declares that has no bodies yet, of which these are all the bytes, and checks that it is valid
+/// under these proposals. Where the status is 0, the handle has it, and what it had before is freed; else it stays as it
+/// was. The bytes aren't kept.
+pub fn declare(
+    alloc: Global,
+    bytes: &[u8],
+    features: u32,
+    handle: &mut Handle,
+    text: &mut [u8],
+    out: &mut ModuleVerdict,
+) -> u32
+    ensures status { result ≡ out.new.status }
+    ensures consistent { IsConsistent (length text.new) out.new }
+    ensures declared { result ≡ 0 → OnHeld handle.new.held (λ h.
+        OnDeclared h (AreDeclaredFrom bytes.now features)) }
+    ensures unchanged { result ≢ 0 → handle.new.held ≡ handle.old.held }
+    ensures known { result ≤ 4 }
+{
+    *out = ModuleVerdict::new();
+    match read_declarations(alloc, bytes, features) {
+        Ok(declarations) => {
+            if !keep_new(alloc, HeldModule::Declared(declarations), handle) {
+                out.report(OUT_OF_MEMORY, None, 0, "out of memory", text);
+            }
+        }
+        Err(verdict) => out.note(&verdict, None, text),
+    }
+    status_of(out)
+}
+
+/// Reads what a module declares that has no bodies yet, of which these are all the bytes.
+fn read_declarations(
+    alloc: Global,
+    bytes: &[u8],
+    features: u32,
+) -> Result<LoadedDeclarations, Verdict>
+    ensures declared { IfOk result (AreDeclaredFrom bytes.now features) }
+    ensures refused { IfErr result (λ verdict. verdict ≢ Accepted) }
+{
+    LoadedDeclarations::new(alloc, bytes, ModuleFeatures::from_bits_truncate(features))
+}
+
+/// Puts a module into a handle. Answers whether there was memory for it; else the handle stays as it was.
+fn keep_new(alloc: Global, module: HeldModule, handle: &mut Handle) -> bool
+    ensures kept { result ≡ true → OnHeld handle.new.held (λ h. h ≡ «module») }
+    ensures unchanged { result ≡ false → handle.new.held ≡ handle.old.held }
+{
+    match Arc::new(alloc, module) {
+        Ok(held) => keep(alloc, Kept::Module(SharedModule { held }), handle),
+        Err(_) => false,
+    }
+}
+
+/// Another owner of a module, if there was memory for it.
+pub(crate) fn another(shared: &SharedModule) -> Option<SharedModule>
+    ensures { IfSome result (λ s. module_of s ≡ module_of shared.now) }
+{
+    match shared.held.clone() {
+        Ok(held) => Some(SharedModule { held }),
+        Err(_) => None,
+    }
+}
+
+/// The status where there was memory, or not.
+fn status_of_memory(found: bool) -> u32
+    ensures found { result ≡ 0 → found ≡ true }
+    ensures wanting { result ≢ 0 → (result ≡ 3) × (found ≡ false) }
+{
+    if found { VALID } else { OUT_OF_MEMORY }
+}
+
+/// Gives a handle the module that another keeps.
+fn share_kept(alloc: Global, kept: &Kept, other: &mut Handle) -> u32
+    ensures shared { result ≡ 0 → HaveTheSame other.new.held (Some kept.now) }
+    ensures unchanged { result ≢ 0 → other.new.held ≡ other.old.held }
+    ensures none { result ≡ 6 ↔ HasNoModule (Some kept.now) }
+{
+    match kept {
+        Kept::Module(shared) => match another(shared) {
+            Some(second) => status_of_memory(keep(alloc, Kept::Module(second), other)),
+            None => OUT_OF_MEMORY,
+        },
+        Kept::Function(_) => NOT_LOADED,
+    }
+}
+
+/// Gives a second handle the module of the first, which has it as before. Answers the status: 0, or that of want of
+/// memory or of no module, where the second stays as it was.
+pub fn share(alloc: Global, handle: &mut Handle, other: &mut Handle) -> u32
+    ensures shared { result ≡ 0 → HaveTheSame other.new.held handle.old.held }
+    ensures unchanged { result ≢ 0 → other.new.held ≡ other.old.held }
+    ensures none { result ≡ 6 ↔ HasNoModule handle.old.held }
+    ensures kept { handle.new.held ≡ handle.old.held }
+{
+    let Some(kept) = handle.take(alloc) else {
+        return NOT_LOADED;
+    };
+    let status = share_kept(alloc, &kept, other);
+    handle.put_back(alloc, kept);
+    status
+}
+
+impl Kept {
+    /// How many functions the module has, the imported ones counted, or 0 where there is none.
+    fn function_count(&self) -> u32
+        ensures counted { OfHeld (Some self.now) (λ h. result ≡ min (functions_in h) (2 ^ 32 - 1)) }
+        ensures none { HasNoModule (Some self.now) → result ≡ 0 }
+    {
+        match self {
+            Kept::Module(shared) => shared.held.function_count(),
+            Kept::Function(_) => 0,
+        }
+    }
+
+    /// How many of them are imported.
+    fn imported_count(&self) -> u32
+        ensures counted { OfHeld (Some self.now) (λ h. result ≡ imported_functions_in h) }
+        ensures none { HasNoModule (Some self.now) → result ≡ 0 }
+    {
+        match self {
+            Kept::Module(shared) => shared.held.imported_count(),
+            Kept::Function(_) => 0,
+        }
+    }
+}
+
+/// The index behind that of the last function, or 0 where there is no module.
+pub fn functions(alloc: Global, handle: &mut Handle) -> u32
+    ensures counted { OfHeld handle.old.held (λ h. result ≡ min (functions_in h) (2 ^ 32 - 1)) }
+    ensures none { HasNoModule handle.old.held → result ≡ 0 }
+    ensures kept { handle.new.held ≡ handle.old.held }
+{
+    let Some(kept) = handle.take(alloc) else {
+        return 0;
+    };
+    let count = kept.function_count();
+    handle.put_back(alloc, kept);
+    count
+}
+
+/// How many functions are imported, and have no body, or 0 where there is no module.
+pub fn imported_functions(alloc: Global, handle: &mut Handle) -> u32
+    ensures counted { OfHeld handle.old.held (λ h. result ≡ imported_functions_in h) }
+    ensures none { HasNoModule handle.old.held → result ≡ 0 }
+    ensures kept { handle.new.held ≡ handle.old.held }
+{
+    let Some(kept) = handle.take(alloc) else {
+        return 0;
+    };
+    let count = kept.imported_count();
+    handle.put_back(alloc, kept);
+    count
+}
+
+/// Reports that a module has no body for a function, or none at all.
+pub(crate) fn report_no_body(item: Option<Item>, text: &mut [u8], out: &mut ModuleVerdict)
+    requires { IsConsistent (length text.old) out.old }
+    ensures consistent { IsConsistent (length text.new) out.new }
+    ensures status { out.new.status ≡ 5 }
+    ensures reported { Reports item out.new }
+{
+    out.report(
+        NO_BODY,
+        item,
+        0,
+        "the module has no body for this function",
+        text,
+    );
+}
+
+/// Reports that there is no module.
+#[cold]
+#[inline(never)]
+pub(crate) fn report_no_module(text: &mut [u8], out: &mut ModuleVerdict)
+    requires { IsConsistent (length text.old) out.old }
+    ensures consistent { IsConsistent (length text.new) out.new }
+    ensures status { out.new.status ≡ 6 }
+{
+    out.report(NOT_LOADED, None, 0, "there is no module", text);
+}
+
+/// Checks the body of the function at this index, if the module has one for it, and notes what it comes to.
+fn check_one(
+    alloc: Global,
+    module: &LoadedModule<'_>,
+    function: u32,
+    text: &mut [u8],
+    out: &mut ModuleVerdict,
+)
+    requires consistent { IsConsistent (length text.old) out.old }
+    requires first { out.old.status ≡ 0 }
+    ensures consistent { IsConsistent (length text.new) out.new }
+    ensures safe { out.new.status ≡ 0 → IsSafeFunction «module».now function }
+    ensures refused { SaysNo out.new.status → ¬ IsAcceptedFunction «module».now function }
+    ensures reported { out.new.status ≢ 0 → Reports (Some (Function function)) out.new }
+    ensures missing { out.new.status ≡ 5 ↔ HasNoBody (Whole «module».now) function }
+    ensures known { out.new.status ≤ 5 }
+{
+    let item = Some(Item::Function(function));
+    if module.body_of(function).is_some() {
+        let verdict = module.check_function(function, &mut BodyBuffers::new(alloc));
+        out.note(&verdict, item, text);
+    } else {
+        report_no_body(item, text, out);
+    }
+}
+
+/// The same of a module that is held: one without bodies has none for it.
+fn check_one_held(
+    alloc: Global,
+    held: &HeldModule,
+    function: u32,
+    text: &mut [u8],
+    out: &mut ModuleVerdict,
+)
+    requires consistent { IsConsistent (length text.old) out.old }
+    requires first { out.old.status ≡ 0 }
+    ensures consistent { IsConsistent (length text.new) out.new }
+    ensures safe { out.new.status ≡ 0 → OnWhole held.now (λ m. IsSafeFunction m function) }
+    ensures refused { (out.new.status ≡ 1) ⊎ (out.new.status ≡ 2)
+        → OnWhole held.now (λ m. ¬ IsAcceptedFunction m function) }
+    ensures reported { out.new.status ≢ 0 → Reports (Some (Function function)) out.new }
+    ensures missing { out.new.status ≡ 5 ↔ HasNoBody held.now function }
+    ensures known { out.new.status ≤ 5 }
+{
+    match held {
+        HeldModule::Whole(loaded) => check_one(alloc, loaded, function, text, out),
+        HeldModule::Declared(_) => report_no_body(Some(Item::Function(function)), text, out),
+    }
+}
+
+/// The same of what a handle keeps: there may be no module.
+fn check_one_kept(
+    alloc: Global,
+    kept: &Kept,
+    function: u32,
+    text: &mut [u8],
+    out: &mut ModuleVerdict,
+)
+    requires consistent { IsConsistent (length text.old) out.old }
+    requires first { out.old.status ≡ 0 }
+    ensures consistent { IsConsistent (length text.new) out.new }
+    ensures safe { out.new.status ≡ 0 → OnModule (Some kept.now) (λ m. IsSafeFunction m function) }
+    ensures refused { (out.new.status ≡ 1) ⊎ (out.new.status ≡ 2)
+        → OnModule (Some kept.now) (λ m. ¬ IsAcceptedFunction m function) }
+    ensures reported { out.new.status ≢ 0 → out.new.status ≢ 6 → Reports (Some (Function function)) out.new }
+    ensures missing { out.new.status ≡ 5 ↔ OnHeld (Some kept.now) (λ h. HasNoBody h function) }
+    ensures none { out.new.status ≡ 6 ↔ HasNoModule (Some kept.now) }
+    ensures known { out.new.status ≤ 6 }
+{
+    match kept {
+        Kept::Module(shared) => check_one_held(alloc, &shared.held, function, text, out),
+        Kept::Function(_) => report_no_module(text, out),
+    }
+}
+
+/// Checks each body and each constant expression of a module that is held: one without bodies can't be checked.
+fn check_all_held(alloc: Global, held: &HeldModule, text: &mut [u8], out: &mut ModuleVerdict)
+    requires consistent { IsConsistent (length text.old) out.old }
+    requires first { out.old.status ≡ 0 }
+    ensures consistent { IsConsistent (length text.new) out.new }
+    ensures valid { out.new.status ≡ 0 → OnWhole held.now IsValid }
+    ensures refused { (out.new.status ≡ 1) ⊎ (out.new.status ≡ 2)
+        → OnWhole held.now (λ m. ¬ IsAcceptedModule m) }
+    ensures missing { out.new.status ≡ 5 ↔ IsDeclared held.now }
+    ensures known { out.new.status ≤ 5 }
+{
+    match held {
+        HeldModule::Whole(loaded) => check_all(alloc, loaded, text, out),
+        HeldModule::Declared(_) => report_no_body(None, text, out),
+    }
+}
+
+/// The same of what a handle keeps.
+fn check_all_kept(alloc: Global, kept: &Kept, text: &mut [u8], out: &mut ModuleVerdict)
+    requires consistent { IsConsistent (length text.old) out.old }
+    requires first { out.old.status ≡ 0 }
+    ensures consistent { IsConsistent (length text.new) out.new }
+    ensures valid { out.new.status ≡ 0 → OnModule (Some kept.now) IsValid }
+    ensures refused { (out.new.status ≡ 1) ⊎ (out.new.status ≡ 2)
+        → OnModule (Some kept.now) (λ m. ¬ IsAcceptedModule m) }
+    ensures missing { out.new.status ≡ 5 ↔ OnHeld (Some kept.now) IsDeclared }
+    ensures none { out.new.status ≡ 6 ↔ HasNoModule (Some kept.now) }
+    ensures known { out.new.status ≤ 6 }
+{
+    match kept {
+        Kept::Module(shared) => check_all_held(alloc, &shared.held, text, out),
+        Kept::Function(_) => report_no_module(text, out),
+    }
+}
+
+/// Checks them one after another from a position on, up to one that isn't accepted, behind which the position is then.
+fn check_from_held(
+    alloc: Global,
+    held: &HeldModule,
+    position: &mut usize,
+    text: &mut [u8],
+    out: &mut ModuleVerdict,
+)
+    requires consistent { IsConsistent (length text.old) out.old }
+    requires first { out.old.status ≡ 0 }
+    ensures consistent { IsConsistent (length text.new) out.new }
+    ensures rest { out.new.status ≡ 0 → OnWhole held.now (λ m. AreSafeFrom m position.old) }
+    ensures reported { out.new.status ≢ 0 → OfWhole held.now (λ m.
+        IsReported m position.old position.new out.new) }
+    ensures unmoved { (out.new.status ≡ 0) ⊎ (out.new.status ≡ 5) → position.new ≡ position.old }
+    ensures missing { out.new.status ≡ 5 ↔ IsDeclared held.now }
+    ensures known { out.new.status ≤ 5 }
+{
+    match held {
+        HeldModule::Whole(loaded) => {
+            let buffers = &mut BodyBuffers::new(alloc);
+            check_from(loaded, position, buffers, text, out);
+        }
+        HeldModule::Declared(_) => report_no_body(None, text, out),
+    }
+}
+
+/// The same of what a handle keeps.
+fn check_from_kept(
+    alloc: Global,
+    kept: &Kept,
+    position: &mut usize,
+    text: &mut [u8],
+    out: &mut ModuleVerdict,
+)
+    requires consistent { IsConsistent (length text.old) out.old }
+    requires first { out.old.status ≡ 0 }
+    ensures consistent { IsConsistent (length text.new) out.new }
+    ensures rest { out.new.status ≡ 0 → OnModule (Some kept.now) (λ m. AreSafeFrom m position.old) }
+    ensures reported { out.new.status ≢ 0 → OfModule (Some kept.now) (λ m.
+        IsReported m position.old position.new out.new) }
+    ensures unmoved { (out.new.status ≡ 0) ⊎ ((out.new.status ≡ 5) ⊎ (out.new.status ≡ 6))
+        → position.new ≡ position.old }
+    ensures missing { out.new.status ≡ 5 ↔ OnHeld (Some kept.now) IsDeclared }
+    ensures none { out.new.status ≡ 6 ↔ HasNoModule (Some kept.now) }
+    ensures known { out.new.status ≤ 6 }
+{
+    match kept {
+        Kept::Module(shared) => check_from_held(alloc, &shared.held, position, text, out),
+        Kept::Function(_) => report_no_module(text, out),
+    }
+}
+
+/// Checks the body of the function at this index. Where the status is 0, it is type safe; where it is 1 or 2, it isn't
+/// accepted; where it is 5, the module has none for it.
+pub fn validate_function(
+    alloc: Global,
+    handle: &mut Handle,
+    function: u32,
+    text: &mut [u8],
+    out: &mut ModuleVerdict,
+) -> u32
+    ensures status { result ≡ out.new.status }
+    ensures consistent { IsConsistent (length text.new) out.new }
+    ensures safe { result ≡ 0 → OnModule handle.old.held (λ m. IsSafeFunction m function) }
+    ensures refused { (result ≡ 1) ⊎ (result ≡ 2)
+        → OnModule handle.old.held (λ m. ¬ IsAcceptedFunction m function) }
+    ensures reported { result ≢ 0 → result ≢ 6 → Reports (Some (Function function)) out.new }
+    ensures missing { result ≡ 5 ↔ OnHeld handle.old.held (λ h. HasNoBody h function) }
+    ensures none { result ≡ 6 ↔ HasNoModule handle.old.held }
+    ensures known { result ≤ 6 }
+    ensures kept { handle.new.held ≡ handle.old.held }
+{
+    *out = ModuleVerdict::new();
+    let Some(kept) = handle.take(alloc) else {
+        report_no_module(text, out);
+        return status_of(out);
+    };
+    check_one_kept(alloc, &kept, function, text, out);
+    handle.put_back(alloc, kept);
+    status_of(out)
+}
+
+/// Checks each body and each constant expression. Where the status is 0, the module is valid; where it is 1 or 2, one of
+/// them isn't accepted.
+pub fn validate_module(
+    alloc: Global,
+    handle: &mut Handle,
+    text: &mut [u8],
+    out: &mut ModuleVerdict,
+) -> u32
+    ensures status { result ≡ out.new.status }
+    ensures consistent { IsConsistent (length text.new) out.new }
+    ensures valid { result ≡ 0 → OnModule handle.old.held IsValid }
+    ensures refused { (result ≡ 1) ⊎ (result ≡ 2)
+        → OnModule handle.old.held (λ m. ¬ IsAcceptedModule m) }
+    ensures missing { result ≡ 5 ↔ OnHeld handle.old.held IsDeclared }
+    ensures none { result ≡ 6 ↔ HasNoModule handle.old.held }
+    ensures known { result ≤ 6 }
+    ensures kept { handle.new.held ≡ handle.old.held }
+{
+    *out = ModuleVerdict::new();
+    let Some(kept) = handle.take(alloc) else {
+        report_no_module(text, out);
+        return status_of(out);
+    };
+    check_all_kept(alloc, &kept, text, out);
+    handle.put_back(alloc, kept);
+    status_of(out)
+}
+
+/// Checks them one after another, the constant expressions first, from the one at the position on, up to one that isn't
+/// accepted: that is reported, and the position is behind it. The status is 0 where there is none; then the position
+/// stays.
+pub fn validate_next(
+    alloc: Global,
+    handle: &mut Handle,
+    position: &mut usize,
+    text: &mut [u8],
+    out: &mut ModuleVerdict,
+) -> u32
+    ensures status { result ≡ out.new.status }
+    ensures consistent { IsConsistent (length text.new) out.new }
+    ensures rest { result ≡ 0 → OnModule handle.old.held (λ m. AreSafeFrom m position.old) }
+    ensures reported { result ≢ 0 → OfModule handle.old.held (λ m.
+        IsReported m position.old position.new out.new) }
+    ensures unmoved { (result ≡ 0) ⊎ ((result ≡ 5) ⊎ (result ≡ 6)) → position.new ≡ position.old }
+    ensures missing { result ≡ 5 ↔ OnHeld handle.old.held IsDeclared }
+    ensures none { result ≡ 6 ↔ HasNoModule handle.old.held }
+    ensures known { result ≤ 6 }
+    ensures kept { handle.new.held ≡ handle.old.held }
+{
+    *out = ModuleVerdict::new();
+    let Some(kept) = handle.take(alloc) else {
+        report_no_module(text, out);
+        return status_of(out);
+    };
+    check_from_kept(alloc, &kept, position, text, out);
+    handle.put_back(alloc, kept);
+    status_of(out)
+}

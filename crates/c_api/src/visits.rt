@@ -1,0 +1,132 @@
+//! A body that is validated as its bytes come.
+
+ghost use Rattle.std.specs.Prelude.{◌≡◌, ◌≢◌, None, OnErr, IfOk, IfErr, IfSome};
+ghost use Rattle.binary_operators.specs.declared.error.Cause.TheVariants.{OutOfMemory};
+ghost use Rattle.module_check.specs.Refusals.{IsRefusal};
+ghost use Rattle.c_api.specs.Modules.{context_in};
+ghost use Rattle.c_api.specs.Operators.{IsOperatorOf, BeginsWithNone, HasNoRow};
+ghost use Rattle.validate_body.specs.Start.{state, stacks_of};
+ghost use Rattle.validate_stacks.specs.Pops.{IsKept};
+ghost use Rattle.validate_stacks.specs.State.{IsValidBody};
+ghost use Rattle.validate_stacks.specs.Visits.{MayVisit};
+
+use crate::accepted::AcceptedOperators;
+use crate::shared::HeldModule;
+use binary_operators::{BinaryReader, OperatorLists, ReadError, read_operator_into};
+use module_check::CheckError;
+use validate_body::{OperatorValidator, try_op};
+use validate_visit::{NumericOp, Op};
+
+/// Reads the operator that the bytes begin with into this place, and answers how many bytes it has. It refuses as
+/// [`read_operator_into`] does.
+#[inline(always)]
+fn read_into<'l>(
+    module: &HeldModule,
+    bytes: &[u8],
+    lists: &'l mut OperatorLists,
+    op: &mut Op<'l>,
+) -> Result<usize, ReadError>
+    ensures read { IfOk result (λ taken. IsOperatorOf module.now bytes.now op.new taken) }
+    ensures refused { IfErr result (λ e. e.cause ≢ OutOfMemory → BeginsWithNone module.now bytes.now) }
+{
+    let types = module.types();
+    let mut reader = BinaryReader::new(bytes);
+    read_operator_into(&mut reader, &types, lists, op)?;
+    Ok(bytes.len() - reader.bytes_left())
+}
+
+/// [`read_into`], which doesn't tell why it refuses: an answer of two words is handed back in registers.
+#[inline(never)]
+fn read_at_once<'l>(
+    module: &HeldModule,
+    bytes: &[u8],
+    lists: &'l mut OperatorLists,
+    op: &mut Op<'l>,
+) -> Option<usize>
+    ensures { IfSome result (λ taken. IsOperatorOf module.now bytes.now op.new taken) }
+{
+    match read_into(module, bytes, lists, op) {
+        Ok(taken) => Some(taken),
+        Err(_) => None,
+    }
+}
+
+/// The validator of a body, the buffers for the list of one operator, and the operators that were accepted.
+#[derive(Drop)]
+pub(crate) struct Visits {
+    pub(crate) validator: OperatorValidator,
+    pub(crate) lists: OperatorLists,
+    pub(crate) accepted: AcceptedOperators,
+}
+
+impl Visits {
+    ghost use Rattle.c_api.specs.VisitsMade.{IsVisited, IsUnvisited, IsUnread};
+
+    /// Visits the operator that the bytes begin with, if it passes at once, as most do, and answers how many bytes it has.
+    /// Else nothing is changed, and [`Self::visit`] says whether it is accepted.
+    #[inline(always)]
+    pub(crate) fn visit_at_once(
+        &mut self,
+        module: &HeldModule,
+        bytes: &[u8],
+        offset: u64,
+    ) -> Option<usize>
+        requires { MayVisit (context_in module.now) (stacks_of self.old.validator) }
+        ensures accepted { IfSome result (λ taken. IsVisited module.now bytes.now offset taken self.old self.new) }
+        ensures unchanged { result ≡ None → IsUnvisited self.old self.new }
+    {
+        let mut op = Op::Numeric(NumericOp::I32Const(0));
+        let taken = read_at_once(module, bytes, &mut self.lists, &mut op)?;
+        if self.validator.passes_at_once(module.resources(), &op) {
+            self.accepted = self.accepted.and(&op, &offset);
+            return Some(taken);
+        }
+        None
+    }
+
+    /// Visits the operator that the bytes begin with, and answers how many bytes it has.
+    pub(crate) fn visit(
+        &mut self,
+        module: &HeldModule,
+        bytes: &[u8],
+        offset: u64,
+    ) -> Result<usize, CheckError>
+        requires { MayVisit (context_in module.now) (stacks_of self.old.validator) }
+        ensures accepted { IfOk result (λ taken. IsVisited module.now bytes.now offset taken self.old self.new) }
+        ensures refused { IfErr result (λ e. IsRefusal e
+            → HasNoRow module.now bytes.now (state self.old.validator)) }
+        ensures unread { IfErr result (λ e. IsUnread e → IsUnvisited self.old self.new) }
+        ensures list { OnErr result (self.new.accepted ≡ self.old.accepted) }
+        ensures valid { IsValidBody (context_in module.now) (state self.new.validator) }
+        ensures kept { IsKept (state self.old.validator) (state self.new.validator) }
+    {
+        let mut op = Op::Numeric(NumericOp::I32Const(0));
+        let taken = read_into(module, bytes, &mut self.lists, &mut op)?;
+        self.validator.check_ref(module.resources(), offset, &op)?;
+        self.accepted = self.accepted.and(&op, &offset);
+        Ok(taken)
+    }
+
+    /// The same, but a refusal leaves no trace.
+    pub(crate) fn attempt(
+        &mut self,
+        module: &HeldModule,
+        bytes: &[u8],
+        offset: u64,
+    ) -> Result<usize, CheckError>
+        requires idle { (state self.old.validator).undone ≡ None }
+        requires visit { MayVisit (context_in module.now) (stacks_of self.old.validator) }
+        ensures accepted { IfOk result (λ taken. IsVisited module.now bytes.now offset taken self.old self.new) }
+        ensures refused { IfErr result (λ e. IsRefusal e
+            → HasNoRow module.now bytes.now (state self.old.validator)) }
+        ensures back { OnErr result (IsUnvisited self.old self.new) }
+        ensures valid { IsValidBody (context_in module.now) (state self.new.validator) }
+        ensures kept { IsKept (state self.old.validator) (state self.new.validator) }
+    {
+        let mut op = Op::Numeric(NumericOp::I32Const(0));
+        let taken = read_into(module, bytes, &mut self.lists, &mut op)?;
+        try_op(&mut self.validator, module.resources(), offset, op)?;
+        self.accepted = self.accepted.and(&op, &offset);
+        Ok(taken)
+    }
+}

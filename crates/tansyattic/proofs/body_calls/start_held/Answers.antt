@@ -1,4 +1,0 @@
-use Rattle.tansyattic.proofs.body_calls.start_held.Goals as goal
-
-pub returns-in-Whole-clause-starting : goal.returns-in-Whole-clause-starting
-returns-in-Whole-clause-starting c = rw c.in-Whole.is c.start_body.ensures.starting

@@ -27,13 +27,13 @@ def pairs_of(text):
     """Returns what an edit changes: of each place the file, and its text before and behind the edit."""
     path, old, pairs = "", None, []
     for line in text.split("\n"):
-        kind, _, said = line.partition(": ")
+        kind, _, said = line.partition(":")
         if kind == "file":
             path = said.strip()
         elif kind == "old":
-            old = said
+            old = said.removeprefix(" ")
         elif kind == "new":
-            pairs.append((path, old, said))
+            pairs.append((path, old, said.removeprefix(" ")))
     return tuple(pairs)
 
 
@@ -41,6 +41,8 @@ def read_body(crate, file):
     """Reads a wrong body of a crate."""
     folder, text = ROOT / "crates" / crate, file.read_text()
     pairs = pairs_of(text)
+    if not pairs or len(pairs) != len(re.findall(r"^old:", text, re.M)):
+        raise Unusable(f"{crate}/{file.stem}: an `old` of it has no `new`")
     said = re.search(r"^breaks:(.*)$", text, re.M)
     breaks = BREAKS.fullmatch(said[1].strip()) if said else None
     if not breaks:

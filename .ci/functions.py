@@ -7,7 +7,7 @@ from crates import ROOT, files_of
 
 FUNCTION = re.compile(r"^( *)(?:pub(?:\([^)]*\))? +)?(?:const +)?(?:unsafe +)?(?:extern +\"C\" +)?fn +(\w+)", re.M)
 IMPL = re.compile(r"^( *)impl\b([^{]*)\{", re.M)
-SHUT = re.compile(r"^( *)(?:pub +)?(?:trait\b|macro_rules!)", re.M)
+SHUT = re.compile(r"^( *)(?:pub(?:\([^)]*\))? +)?(?:trait\b|macro_rules!)", re.M)
 ENSURES = re.compile(r"^ *ensures\*? *(\w*) *\{", re.M)
 
 

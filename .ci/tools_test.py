@@ -39,6 +39,10 @@ impl<T: Show> Show for Pair<T> {
     }
 }
 
+pub(crate) trait Named {
+    fn named(&self) -> u32;
+}
+
 macro_rules! seen {
     () => {
         fn unseen() {}
@@ -89,8 +93,9 @@ class Functions(OfACrate):
     def test_a_method_of_a_trait_is_named_after_both(self):
         self.assertEqual(self.named("        2\n").name, "PairShow::show")
 
-    def test_a_function_of_a_macro_is_not_seen(self):
+    def test_a_function_of_a_macro_or_a_trait_is_not_seen(self):
         self.assertIsNone(self.named("fn unseen"))
+        self.assertIsNone(self.named("fn named"))
 
     def test_clauses_are_named(self):
         self.assertEqual(functions.clauses("counts", self.named("n + n\n")), ["twice"])
@@ -108,6 +113,7 @@ class Edits(OfACrate):
     def test_a_file_may_have_several_places(self):
         text = "file: src/a.rt\nold: x\nnew: y: z\nfile: src/b.rt\nold: u\nnew: \nbreaks: kept\n"
         self.assertEqual(edits.pairs_of(text), (("src/a.rt", "x", "y: z"), ("src/b.rt", "u", "")))
+        self.assertEqual(edits.pairs_of(text), edits.pairs_of(text.replace("new: \n", "new:\n")))
 
     def test_an_edit_changes_its_line_alone(self):
         lines = edits.edited("counts", self.body(("    n + n", "    n")))["src/lib.rt"]
@@ -128,6 +134,8 @@ class Edits(OfACrate):
         self.assertEqual((body.breaks, body.functions), (("twice", "add", "reached"), {self.named("n + n\n")}))
         file.write_text("file: src/lib.rt\nold:     n + n\nnew:     n\n")
         self.assertRaisesRegex(Unusable, "what it breaks", edits.read_body, "counts", file)
+        file.write_text("file: src/lib.rt\nold:     n + n\nbreaks: twice\n")
+        self.assertRaisesRegex(Unusable, "has no `new`", edits.read_body, "counts", file)
 
 
 class Refusals(OfACrate):

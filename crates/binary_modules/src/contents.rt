@@ -30,7 +30,6 @@ pub(crate) fn check_end(reader: &BinaryReader<'_>) -> Result<(), ReadError>
 /// Reads the items of the section with this id, behind those that are there. It refuses what their reads refuse, and
 /// bytes behind them, `section size mismatch`.
 pub(crate) fn read_section_of<'a, T: Entry>(
-    alloc: Global,
     sections: &[ContentSection<'a>],
     id: u8,
     canonical: CanonicalTypes<'_>,
@@ -43,7 +42,7 @@ pub(crate) fn read_section_of<'a, T: Entry>(
         × Adds initializers.old (placed (length items.old.items) read) initializers.new) }
 {
     let mut reader = contents_of(sections, id);
-    read_entries(alloc, &mut reader, canonical, items, initializers)?;
+    read_entries(&mut reader, canonical, items, initializers)?;
     check_end(&reader)?;
     Ok(())
 }
@@ -61,7 +60,7 @@ pub(crate) fn read_plain_section<T: Entry>(
         items.new.items read) }
 {
     let mut none = Initializers::new(alloc);
-    read_section_of(alloc, sections, id, canonical, items, &mut none)
+    read_section_of(sections, id, canonical, items, &mut none)
 }
 
 /// A number that is a whole section.

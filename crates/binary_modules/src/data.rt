@@ -7,13 +7,12 @@ ghost use Rattle.binary_modules.specs.Items.{Item, placed_at, placed};
 ghost use Rattle.binary_modules.specs.Kept.{Adds};
 ghost use Rattle.binary_modules.specs.Segments.{Target, active_data, data_target, data_behind, data_segment};
 
-use crate::elements::read_index_if;
+use crate::elements::{SegmentHead, read_index_if};
 use crate::entries::Entry;
 use crate::initializers::Initializers;
 use crate::parts::read_sized;
 use binary_operators::{BinaryReader, CanonicalTypes, Fault, ReadError};
 use module_rules::{Data, DataKind, Place};
-use std::alloc::Global;
 
 /// Reads where the bytes of the segment at this index are written to.
 fn read_active_data<'a>(
@@ -33,19 +32,19 @@ fn read_active_data<'a>(
     Ok(DataKind::Active { memory_index })
 }
 
-/// Reads what becomes of the segment at this index, which has these flags.
+/// Reads what becomes of a segment.
 fn read_data_target<'a>(
     reader: &mut BinaryReader<'a>,
     canonical: CanonicalTypes<'_>,
-    flags: u32,
-    index: u32,
+    head: SegmentHead,
     initializers: &mut Initializers<'a>,
 ) -> Result<DataKind, ReadError>
     ensures { IfOk result (λ kind. (t : Target DataKind)
-        × (data_target flags canonical.entry reader.old.left ≡ Some (t, reader.new.left))
+        × (data_target head.flags canonical.entry reader.old.left ≡ Some (t, reader.new.left))
         × (t.kind ≡ kind)
-        × Adds initializers.old (placed_at index t.initializers) initializers.new) }
+        × Adds initializers.old (placed_at head.index t.initializers) initializers.new) }
 {
+    let SegmentHead { flags, index, .. } = head;
     if flags == 1 {
         return Ok(DataKind::Passive);
     }
@@ -53,23 +52,24 @@ fn read_data_target<'a>(
     Ok(kind)
 }
 
-/// Reads the segment at this index behind its flags.
+/// Reads a segment behind its flags.
 fn read_data_behind<'a>(
     reader: &mut BinaryReader<'a>,
     canonical: CanonicalTypes<'_>,
-    flags: u32,
-    index: u32,
-    offset: u64,
+    head: SegmentHead,
     initializers: &mut Initializers<'a>,
 ) -> Result<Data, ReadError>
     ensures { IfOk result (λ d. (item : Item Data)
-        × (data_behind flags canonical.entry reader.old.left ≡ Some (item, reader.new.left))
+        × (data_behind head.flags canonical.entry reader.old.left ≡ Some (item, reader.new.left))
         × (item.declared ≡ record d { offset = 0 })
-        × Adds initializers.old (placed index (item ∷ [])) initializers.new) }
+        × Adds initializers.old (placed head.index (item ∷ [])) initializers.new) }
 {
-    let kind = read_data_target(reader, canonical, flags, index, initializers)?;
+    let kind = read_data_target(reader, canonical, head, initializers)?;
     let _bytes = read_sized(reader)?;
-    Ok(Data { kind, offset })
+    Ok(Data {
+        kind,
+        offset: head.offset,
+    })
 }
 
 impl Entry for Data {
@@ -78,7 +78,6 @@ impl Entry for Data {
     ghost unplaced = { λ d. record d { offset = 0 } };
 
     fn read<'a>(
-        _alloc: Global,
         reader: &mut BinaryReader<'a>,
         canonical: CanonicalTypes<'_>,
         index: u32,
@@ -89,7 +88,12 @@ impl Entry for Data {
         if flags > 2 {
             return Err(ReadError::malformed(Fault::InvalidSegmentFlags, offset));
         }
-        let segment = read_data_behind(reader, canonical, flags, index, offset, initializers)?;
+        let head = SegmentHead {
+            flags,
+            index,
+            offset,
+        };
+        let segment = read_data_behind(reader, canonical, head, initializers)?;
         Ok(segment)
     }
 }

@@ -20,6 +20,17 @@ use module_rules::{Element, ElementItems, ElementKind, FunctionItems, Place};
 use std::alloc::Global;
 use validate_types::RefType;
 
+/// What a segment begins with, and which one it is.
+#[derive(Clone, Copy)]
+pub(crate) struct SegmentHead {
+    /// Its flags.
+    pub flags: u32,
+    /// Its index.
+    pub index: u32,
+    /// Where it stands.
+    pub offset: u64,
+}
+
 /// Reads the index of a table or a memory, if it is written: else it is 0.
 pub(crate) fn read_index_if(
     reader: &mut BinaryReader<'_>,
@@ -52,19 +63,19 @@ fn read_active_elements<'a>(
     Ok(ElementKind::Active { table_index })
 }
 
-/// Reads what becomes of the segment at this index, which has these flags.
+/// Reads what becomes of a segment.
 fn read_element_target<'a>(
     reader: &mut BinaryReader<'a>,
     canonical: CanonicalTypes<'_>,
-    flags: u32,
-    index: u32,
+    head: SegmentHead,
     initializers: &mut Initializers<'a>,
 ) -> Result<ElementKind, ReadError>
     ensures { IfOk result (λ kind. (t : Target ElementKind)
-        × (element_target flags canonical.entry reader.old.left ≡ Some (t, reader.new.left))
+        × (element_target head.flags canonical.entry reader.old.left ≡ Some (t, reader.new.left))
         × (t.kind ≡ kind)
-        × Adds initializers.old (placed_at index t.initializers) initializers.new) }
+        × Adds initializers.old (placed_at head.index t.initializers) initializers.new) }
 {
+    let SegmentHead { flags, index, .. } = head;
     let mode = flags % 4;
     if mode == 1 {
         return Ok(ElementKind::Passive);
@@ -162,20 +173,20 @@ fn read_kind_and_functions(
     Ok(items)
 }
 
-/// Reads the items of the segment at this index, which has these flags.
+/// Reads the items of a segment.
 fn read_element_items<'a>(
-    alloc: Global,
     reader: &mut BinaryReader<'a>,
     canonical: CanonicalTypes<'_>,
-    flags: u32,
-    index: u32,
+    head: SegmentHead,
     initializers: &mut Initializers<'a>,
 ) -> Result<ElementItems, ReadError>
     ensures { IfOk result (λ items. (l : Listed)
-        × (element_items flags canonical.entry reader.old.left ≡ Some (l, reader.new.left))
+        × (element_items head.flags canonical.entry reader.old.left ≡ Some (l, reader.new.left))
         × (l.items ≡ items)
-        × Adds initializers.old (placed_at index l.initializers) initializers.new) }
+        × Adds initializers.old (placed_at head.index l.initializers) initializers.new) }
 {
+    let SegmentHead { flags, index, .. } = head;
+    let alloc = initializers.allocator();
     if flags == 0 {
         let functions = read_function_items(alloc, reader, canonical)?;
         return Ok(functions);
@@ -193,27 +204,24 @@ fn read_element_items<'a>(
     Ok(typed)
 }
 
-/// Reads the segment at this index behind its flags.
+/// Reads a segment behind its flags.
 fn read_element_behind<'a>(
-    alloc: Global,
     reader: &mut BinaryReader<'a>,
     canonical: CanonicalTypes<'_>,
-    flags: u32,
-    index: u32,
-    offset: u64,
+    head: SegmentHead,
     initializers: &mut Initializers<'a>,
 ) -> Result<Element, ReadError>
     ensures { IfOk result (λ e. (item : Item Element)
-        × (element_behind flags canonical.entry reader.old.left ≡ Some (item, reader.new.left))
+        × (element_behind head.flags canonical.entry reader.old.left ≡ Some (item, reader.new.left))
         × (item.declared ≡ record e { offset = 0 })
-        × Adds initializers.old (placed index (item ∷ [])) initializers.new) }
+        × Adds initializers.old (placed head.index (item ∷ [])) initializers.new) }
 {
-    let kind = read_element_target(reader, canonical, flags, index, initializers)?;
-    let items = read_element_items(alloc, reader, canonical, flags, index, initializers)?;
+    let kind = read_element_target(reader, canonical, head, initializers)?;
+    let items = read_element_items(reader, canonical, head, initializers)?;
     Ok(Element {
         kind,
         items,
-        offset,
+        offset: head.offset,
     })
 }
 
@@ -223,7 +231,6 @@ impl Entry for Element {
     ghost unplaced = { λ e. record e { offset = 0 } };
 
     fn read<'a>(
-        alloc: Global,
         reader: &mut BinaryReader<'a>,
         canonical: CanonicalTypes<'_>,
         index: u32,
@@ -234,15 +241,12 @@ impl Entry for Element {
         if flags > 7 {
             return Err(ReadError::malformed(Fault::InvalidSegmentFlags, offset));
         }
-        let segment = read_element_behind(
-            alloc,
-            reader,
-            canonical,
+        let head = SegmentHead {
             flags,
             index,
             offset,
-            initializers,
-        )?;
+        };
+        let segment = read_element_behind(reader, canonical, head, initializers)?;
         Ok(segment)
     }
 }

@@ -10,7 +10,6 @@ ghost use Rattle.binary_modules.specs.Kept.{Adds};
 use crate::initializers::Initializers;
 use crate::lists::make_room;
 use binary_operators::{BinaryReader, CanonicalTypes, Fault, ReadError, push};
-use std::alloc::Global;
 
 /// What a section has a list of.
 pub(crate) trait Entry: Drop {
@@ -22,7 +21,6 @@ pub(crate) trait Entry: Drop {
 
     /// Reads the item at this index, and its constant expressions behind those that are there.
     fn read<'a>(
-        alloc: Global,
         reader: &mut BinaryReader<'a>,
         canonical: CanonicalTypes<'_>,
         index: u32,
@@ -37,7 +35,6 @@ pub(crate) trait Entry: Drop {
 /// Reads an item behind those that are there. It refuses what the read of the item refuses, an index past 2^32, and
 /// want of memory.
 fn read_entry<'a, T: Entry>(
-    alloc: Global,
     reader: &mut BinaryReader<'a>,
     canonical: CanonicalTypes<'_>,
     items: &mut Vec<T>,
@@ -52,7 +49,7 @@ fn read_entry<'a, T: Entry>(
     let Ok(index) = u32::try_from(items.len()) else {
         return Err(ReadError::malformed(Fault::TypeIndexTooLarge, reader.offset()));
     };
-    let item = T::read(alloc, reader, canonical, index, initializers)?;
+    let item = T::read(reader, canonical, index, initializers)?;
     push(items, item)?;
     Ok(())
 }
@@ -60,7 +57,6 @@ fn read_entry<'a, T: Entry>(
 /// Reads a list of items behind those that are there.
 #[tactic(auto, unfolding(binary_operators::specs::Values::list_of))]
 pub(crate) fn read_entries<'a, T: Entry>(
-    alloc: Global,
     reader: &mut BinaryReader<'a>,
     canonical: CanonicalTypes<'_>,
     items: &mut Vec<T>,
@@ -74,7 +70,7 @@ pub(crate) fn read_entries<'a, T: Entry>(
     let count = reader.read_var_u32()?;
     make_room(items, reader, count)?;
     for _ in 0..count {
-        read_entry(alloc, reader, canonical, items, initializers)?;
+        read_entry(reader, canonical, items, initializers)?;
     }
     Ok(())
 }

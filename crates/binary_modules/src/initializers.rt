@@ -27,6 +27,7 @@ pub struct Initializers<'a> {
     /// The functions that they name by `ref.func`.
     pub functions: Vec<u32>,
     lists: OperatorLists,
+    alloc: Global,
 }
 
 impl<'a> Initializers<'a> {
@@ -39,7 +40,13 @@ impl<'a> Initializers<'a> {
             expressions: Vec::new(alloc),
             functions: Vec::new(alloc),
             lists: OperatorLists::new(alloc),
+            alloc,
         }
+    }
+
+    /// By what memory is taken, also for the lists that stand beside the expressions.
+    pub(crate) fn allocator(&self) -> Global {
+        self.alloc
     }
 
     /// Reads a constant expression for this, behind those that are there. It refuses what the reads of operators refuse,

@@ -5,7 +5,7 @@ ghost use Rattle.binary_operators.specs.Integers.{unsigned};
 ghost use Rattle.binary_modules.specs.Limits.{has_flag, size, limits_behind, limits, table_type, memory_type};
 ghost use Rattle.binary_modules.specs.Parts.{if_so};
 
-use binary_operators::{BinaryReader, CanonicalTypes, Fault, ReadError, read_ref_type};
+use binary_operators::{BinaryReader, CanonicalTypes, Cause, Fault, ReadError, read_ref_type};
 use module_rules::{DeclaredMemory, DeclaredTable, Limits, TableInit};
 use validate_types::{MemoryType, TableType};
 
@@ -26,6 +26,17 @@ pub(crate) fn has_flag(bit: u8, flags: u8) -> bool
     flags / bit % 2 == 1
 }
 
+/// Why a size of 32 bits can't be read: where it is too large, with the size that is declared here.
+fn size_refusal(error: ReadError, mut declared: BinaryReader<'_>) -> ReadError {
+    let Cause::Malformed(Fault::IntegerTooLarge) = error.cause else {
+        return error;
+    };
+    match declared.read_var_u64() {
+        Ok(size) => ReadError::malformed(Fault::LimitTooLarge(size), error.offset),
+        Err(_) => error,
+    }
+}
+
 /// Reads a size, which has as many bits as an address.
 fn read_size(reader: &mut BinaryReader<'_>, is_64: bool) -> Result<u64, ReadError>
     ensures read { IfOk result (λ n. size is_64 reader.old.left ≡ Some (n, reader.new.left)) }
@@ -34,7 +45,11 @@ fn read_size(reader: &mut BinaryReader<'_>, is_64: bool) -> Result<u64, ReadErro
     if is_64 {
         return reader.read_var_u64();
     }
-    Ok(u64::from(reader.read_var_u32()?))
+    let declared = reader.duplicate();
+    match reader.read_var_u32() {
+        Ok(size) => Ok(u64::from(size)),
+        Err(error) => Err(size_refusal(error, declared)),
+    }
 }
 
 /// Reads the greatest size, if one is set.

@@ -24,24 +24,10 @@ pub(crate) fn read_own_items<'a>(
         initializers.old initializers.new) }
 {
     read_plain_section(alloc, sections, 3, canonical, &mut items.functions)?;
-    read_section_of(
-        alloc,
-        sections,
-        4,
-        canonical,
-        &mut items.tables,
-        initializers,
-    )?;
+    read_section_of(sections, 4, canonical, &mut items.tables, initializers)?;
     read_plain_section(alloc, sections, 5, canonical, &mut items.memories)?;
     read_plain_section(alloc, sections, 13, canonical, &mut items.tags)?;
-    read_section_of(
-        alloc,
-        sections,
-        6,
-        canonical,
-        &mut items.globals,
-        initializers,
-    )?;
+    read_section_of(sections, 6, canonical, &mut items.globals, initializers)?;
     Ok(())
 }
 
@@ -56,7 +42,6 @@ pub(crate) struct Segments {
 
 /// Reads the segments of a module.
 pub(crate) fn read_segments<'a>(
-    alloc: Global,
     sections: &[ContentSection<'a>],
     canonical: CanonicalTypes<'_>,
     initializers: &mut Initializers<'a>,
@@ -64,17 +49,11 @@ pub(crate) fn read_segments<'a>(
     ensures { IfOk result (λ s. HasSegments canonical.entry (told_sections sections.now) s
         initializers.old initializers.new) }
 {
+    let alloc = initializers.allocator();
     let mut elements = Vec::new(alloc);
-    read_section_of(alloc, sections, 9, canonical, &mut elements, initializers)?;
+    read_section_of(sections, 9, canonical, &mut elements, initializers)?;
     let mut data_segments = Vec::new(alloc);
-    read_section_of(
-        alloc,
-        sections,
-        11,
-        canonical,
-        &mut data_segments,
-        initializers,
-    )?;
+    read_section_of(sections, 11, canonical, &mut data_segments, initializers)?;
     Ok(Segments {
         elements,
         data_segments,

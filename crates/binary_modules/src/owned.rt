@@ -17,7 +17,6 @@ use module_rules::{
     DeclaredFunction, DeclaredGlobal, DeclaredMemory, DeclaredTable, DeclaredTag, Export, Place,
     TableInit,
 };
-use std::alloc::Global;
 
 impl Entry for DeclaredFunction {
     ghost reading = { λ types bytes. own_function types bytes };
@@ -25,7 +24,6 @@ impl Entry for DeclaredFunction {
     ghost unplaced = { λ f. record f { offset = 0 } };
 
     fn read<'a>(
-        _alloc: Global,
         reader: &mut BinaryReader<'a>,
         canonical: CanonicalTypes<'_>,
         _index: u32,
@@ -43,7 +41,6 @@ impl Entry for DeclaredMemory {
     ghost unplaced = { λ m. record m { offset = 0 } };
 
     fn read<'a>(
-        _alloc: Global,
         reader: &mut BinaryReader<'a>,
         _canonical: CanonicalTypes<'_>,
         _index: u32,
@@ -61,7 +58,6 @@ impl Entry for DeclaredTag {
     ghost unplaced = { λ t. record t { offset = 0 } };
 
     fn read<'a>(
-        _alloc: Global,
         reader: &mut BinaryReader<'a>,
         canonical: CanonicalTypes<'_>,
         _index: u32,
@@ -79,13 +75,12 @@ impl Entry for Export {
     ghost unplaced = { λ e. record e { offset = 0 } };
 
     fn read<'a>(
-        alloc: Global,
         reader: &mut BinaryReader<'a>,
         _canonical: CanonicalTypes<'_>,
         _index: u32,
-        _initializers: &mut Initializers<'a>,
+        initializers: &mut Initializers<'a>,
     ) -> Result<Export, ReadError> {
-        let export = read_export(alloc, reader)?;
+        let export = read_export(initializers.allocator(), reader)?;
         Ok(export)
     }
 }
@@ -119,7 +114,6 @@ impl Entry for DeclaredTable {
     ghost unplaced = { λ t. record t { offset = 0 } };
 
     fn read<'a>(
-        _alloc: Global,
         reader: &mut BinaryReader<'a>,
         canonical: CanonicalTypes<'_>,
         index: u32,
@@ -147,7 +141,6 @@ impl Entry for DeclaredGlobal {
     ghost unplaced = { λ g. record g { offset = 0 } };
 
     fn read<'a>(
-        _alloc: Global,
         reader: &mut BinaryReader<'a>,
         canonical: CanonicalTypes<'_>,
         index: u32,

@@ -251,7 +251,6 @@ struct Uses<'a> {
 
 /// Reads what stands in the sections of a module besides types and these items. The module ends at this offset.
 fn read_uses<'a>(
-    alloc: Global,
     sections: &[ContentSection<'a>],
     canonical: CanonicalTypes<'_>,
     items: &Items,
@@ -274,9 +273,10 @@ fn read_uses<'a>(
     ensures data_counted { IfOk result (λ u. IfSome (option_map (λ (n : SectionNumber). n.number) u.data_count)
         (λ n. n ≡ length u.segments.data_segments.items)) }
 {
+    let alloc = initializers.allocator();
     let exports = read_exports(alloc, sections, canonical)?;
     let start = read_number_of(sections, 8)?;
-    let segments = read_segments(alloc, sections, canonical, initializers)?;
+    let segments = read_segments(sections, canonical, initializers)?;
     let data_count = read_number_of(sections, 12)?;
     let bodies = read_bodies_of(alloc, sections)?;
     let functions = items.items.functions.len();
@@ -306,7 +306,7 @@ fn read_contents<'a>(
     let canonical = CanonicalTypes::new(&types.canonical);
     let mut initializers = Initializers::new(alloc);
     let found = read_items(alloc, sections, canonical, &mut initializers)?;
-    let uses = read_uses(alloc, sections, canonical, &found, end, &mut initializers)?;
+    let uses = read_uses(sections, canonical, &found, end, &mut initializers)?;
     let Items { imports, items } = found;
     let Uses {
         exports,

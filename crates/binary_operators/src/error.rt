@@ -40,6 +40,8 @@ pub enum Fault {
     UnexpectedEnd,
     /// `integer too large`
     IntegerTooLarge,
+    /// `integer too large: limit N has more than 32 bits`
+    LimitTooLarge(u64),
     /// `integer representation too long`
     IntegerTooLong,
     /// `malformed UTF-8 encoding`
@@ -92,7 +94,7 @@ impl Fault {
             Fault::InvalidHandler => "invalid handler",
             Fault::IllegalOpcode { .. } => "illegal opcode",
             Fault::UnexpectedEnd => "unexpected end",
-            Fault::IntegerTooLarge => "integer too large",
+            Fault::IntegerTooLarge | Fault::LimitTooLarge(_) => "integer too large",
             Fault::IntegerTooLong => "integer representation too long",
             Fault::MalformedUtf8Encoding => "malformed UTF-8 encoding",
             Fault::InvalidElementKind => "invalid element kind",
@@ -117,7 +119,10 @@ impl Fault {
     pub fn has_number(self) -> bool {
         matches!(
             self,
-            Fault::InvalidTypeCode(_) | Fault::IllegalOpcode { .. } | Fault::InvalidExternalKind(_)
+            Fault::InvalidTypeCode(_)
+                | Fault::IllegalOpcode { .. }
+                | Fault::LimitTooLarge(_)
+                | Fault::InvalidExternalKind(_)
         )
     }
 }
@@ -129,6 +134,9 @@ impl fmt::Display for Fault {
             Fault::InvalidTypeCode(byte) => write!(f, "invalid leading byte (0x{byte:x}) for type"),
             Fault::InvalidExternalKind(byte) => {
                 write!(f, "invalid leading byte (0x{byte:x}) for external kind")
+            }
+            Fault::LimitTooLarge(limit) => {
+                write!(f, "integer too large: limit {limit} has more than 32 bits")
             }
             Fault::IllegalOpcode { prefix: None, code } => write!(f, "illegal opcode: 0x{code:x}"),
             Fault::IllegalOpcode {

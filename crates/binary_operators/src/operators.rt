@@ -40,6 +40,17 @@ use validate_visit::{
     Ieee64, NumericOp, Op, ResumeTable, SharedOp, TryTable,
 };
 
+/// A code that was read.
+#[derive(Clone, Copy)]
+struct Code {
+    /// What follows it.
+    form: Form,
+    /// The code, with its prefix above it if it has one.
+    number: u32,
+    /// Where the operator begins.
+    offset: u64,
+}
+
 /// Writes the operator of this code, if there is one: else the code, which stands at the offset, is refused.
 #[inline(always)]
 fn put<'l>(op: Option<Op<'l>>, code: u32, offset: u64, to: &mut Op<'l>) -> Result<(), ReadError>
@@ -508,25 +519,24 @@ fn resume<'l>(code: u32, cont_type_index: u32, handlers: &'l [Handle]) -> Option
     Some(Op::Continuation(op))
 }
 
-/// Reads the type of an operator of this code, which stands at the offset, and its handlers, which it is
-/// lent.
+/// Reads the type of an operator of this code, and its handlers, which it is lent.
 #[tactic(auto, unfolding(crate::specs::Instructions::resume_op))]
 fn read_resume<'l>(
     reader: &mut BinaryReader<'_>,
     canonical: CanonicalTypes<'_>,
     handlers: &'l mut Vec<Handle>,
-    code: u32,
-    offset: u64,
+    code: Code,
     to: &mut Op<'l>,
 ) -> Result<(), ReadError>
-    ensures read { OnOk result (resume_op code canonical.entry reader.old.left
+    ensures read { OnOk result (resume_op code.number canonical.entry reader.old.left
         ≡ Some (unplaced to.new, reader.new.left)) }
     ensures refused { IfErr result (λ e. e.cause ≢ OutOfMemory
-        → resume_op code canonical.entry reader.old.left ≡ None) }
+        → resume_op code.number canonical.entry reader.old.left ≡ None) }
 {
+    let Code { number, offset, .. } = code;
     let ty = canonical.of(reader.read_var_u32()?);
     read_list(reader, canonical, handlers)?;
-    put(resume(code, ty, handlers.as_slice()), code, offset, to)
+    put(resume(number, ty, handlers.as_slice()), number, offset, to)
 }
 
 /// Reads the type of a `resume_throw`, the tag of what it throws, and its handlers, which it is lent.
@@ -555,57 +565,59 @@ fn read_resume_throw<'l>(
     Ok(())
 }
 
-/// Reads the immediates of an operator of this code, which stands at the offset, by their form. Its list, if
-/// it has one, is lent.
+/// Reads the immediates of an operator of this code, by their form. Its list, if it has one, is lent.
 #[inline(never)]
 fn read_by<'l>(
     reader: &mut BinaryReader<'_>,
     canonical: CanonicalTypes<'_>,
     lists: &'l mut OperatorLists,
-    form: Form,
-    code: u32,
-    offset: u64,
+    code: Code,
     to: &mut Op<'l>,
 ) -> Result<(), ReadError>
-    ensures read { OnOk result (operator_by form code canonical.entry reader.old.left
+    ensures read { OnOk result (operator_by code.form code.number canonical.entry reader.old.left
         ≡ Some (unplaced to.new, reader.new.left)) }
     ensures refused { IfErr result (λ e. e.cause ≢ OutOfMemory
-        → operator_by form code canonical.entry reader.old.left ≡ None) }
+        → operator_by code.form code.number canonical.entry reader.old.left ≡ None) }
 {
+    let Code {
+        form,
+        number,
+        offset,
+    } = code;
     match form {
-        Form::Plain => plain_op(code, offset, to),
-        Form::Block => read_block(reader, canonical, code, offset, to),
-        Form::Index => read_index(reader, code, offset, to),
-        Form::TwoIndices => read_two_indices(reader, code, offset, to),
-        Form::TypeIndex => read_type_index(reader, canonical, code, offset, to),
-        Form::TypedIndex => read_typed_index(reader, canonical, code, offset, to),
-        Form::TwoTypes => read_two_types(reader, canonical, code, offset, to),
-        Form::Heap => read_heap(reader, canonical, code, offset, to),
-        Form::Cast => read_branch_cast(reader, canonical, code, offset, to),
-        Form::Access => read_access(reader, code, offset, to),
-        Form::Atomic => read_atomic(reader, code, offset, to),
+        Form::Plain => plain_op(number, offset, to),
+        Form::Block => read_block(reader, canonical, number, offset, to),
+        Form::Index => read_index(reader, number, offset, to),
+        Form::TwoIndices => read_two_indices(reader, number, offset, to),
+        Form::TypeIndex => read_type_index(reader, canonical, number, offset, to),
+        Form::TypedIndex => read_typed_index(reader, canonical, number, offset, to),
+        Form::TwoTypes => read_two_types(reader, canonical, number, offset, to),
+        Form::Heap => read_heap(reader, canonical, number, offset, to),
+        Form::Cast => read_branch_cast(reader, canonical, number, offset, to),
+        Form::Access => read_access(reader, number, offset, to),
+        Form::Atomic => read_atomic(reader, number, offset, to),
         Form::I32 => read_i32(reader, to),
         Form::I64 => read_i64(reader, to),
         Form::F32 => read_f32(reader, to),
         Form::F64 => read_f64(reader, to),
-        Form::Numeric => numeric(code, offset, to),
-        Form::Conversion => conversion(code, offset, to),
+        Form::Numeric => numeric(number, offset, to),
+        Form::Conversion => conversion(number, offset, to),
         Form::Labels => read_branch_table(reader, canonical, &mut lists.labels, to),
         Form::Types => read_select(reader, canonical, &mut lists.types, to),
         Form::Clauses => read_try_table(reader, canonical, &mut lists.catches, to),
-        Form::Handlers => read_resume(reader, canonical, &mut lists.handlers, code, offset, to),
+        Form::Handlers => read_resume(reader, canonical, &mut lists.handlers, code, to),
         Form::Thrown => read_resume_throw(reader, canonical, &mut lists.handlers, to),
         Form::Fence => read_fence(reader, to),
-        Form::Global => read_global(reader, code, offset, to),
-        Form::Table => read_table(reader, code, offset, to),
-        Form::Field => read_field(reader, canonical, code, offset, to),
-        Form::Array => read_array(reader, canonical, code, offset, to),
+        Form::Global => read_global(reader, number, offset, to),
+        Form::Table => read_table(reader, number, offset, to),
+        Form::Field => read_field(reader, canonical, number, offset, to),
+        Form::Array => read_array(reader, canonical, number, offset, to),
         Form::Vector => Err(ReadError::vector_operator(offset)),
-        Form::Illegal | Form::Prefix => Err(ReadError::illegal(code, offset)),
+        Form::Illegal | Form::Prefix => Err(ReadError::illegal(number, offset)),
     }
 }
 
-/// Reads the operator behind a prefix, which stands at the offset.
+/// Reads the operator behind this prefix, which is the byte before.
 #[inline(never)]
 #[tactic(auto, unfolding(crate::specs::Instructions::prefixed_op))]
 fn read_prefixed<'l>(
@@ -613,7 +625,6 @@ fn read_prefixed<'l>(
     canonical: CanonicalTypes<'_>,
     lists: &'l mut OperatorLists,
     prefix: u8,
-    offset: u64,
     to: &mut Op<'l>,
 ) -> Result<(), ReadError>
     ensures read { OnOk result (prefixed_op prefix canonical.entry reader.old.left
@@ -621,34 +632,55 @@ fn read_prefixed<'l>(
     ensures refused { IfErr result (λ e. e.cause ≢ OutOfMemory
         → prefixed_op prefix canonical.entry reader.old.left ≡ None) }
 {
+    let offset = reader.offset().saturating_sub(1);
     let code = reader.read_var_u32()?;
     let Some(form) = form_behind(prefix, code) else {
         return Err(ReadError::no_operator(Some(prefix), code, offset));
     };
-    let whole = u32::from(prefix) * 0x100 + code;
-    read_by(reader, canonical, lists, form, whole, offset, to)
+    let number = u32::from(prefix) * 0x100 + code;
+    read_by(
+        reader,
+        canonical,
+        lists,
+        Code {
+            form,
+            number,
+            offset,
+        },
+        to,
+    )
 }
 
-/// Reads an operator of this code, which stands at the offset, by its form, if there is such an operator.
+/// Reads an operator of this code, which is the byte before, by its form, if there is such an operator.
 #[inline(never)]
 fn read_rare<'l>(
     reader: &mut BinaryReader<'_>,
     canonical: &CanonicalTypes<'_>,
     lists: &'l mut OperatorLists,
-    form: Option<Form>,
     code: u8,
-    offset: u64,
     to: &mut Op<'l>,
 ) -> Result<(), ReadError>
-    ensures read { OnOk result (operator_of form code canonical.now reader.old.left
+    ensures read { OnOk result (operator_of (from 0 forms code) code canonical.now reader.old.left
         ≡ Some (unplaced to.new, reader.new.left)) }
     ensures refused { IfErr result (λ e. e.cause ≢ OutOfMemory
-        → operator_of form code canonical.now reader.old.left ≡ None) }
+        → operator_of (from 0 forms code) code canonical.now reader.old.left ≡ None) }
 {
-    match form {
-        Some(Form::Prefix) => read_prefixed(reader, *canonical, lists, code, offset, to),
-        Some(form) => read_by(reader, *canonical, lists, form, u32::from(code), offset, to),
-        None => Err(ReadError::illegal(u32::from(code), offset)),
+    let offset = reader.offset().saturating_sub(1);
+    let number = u32::from(code);
+    match form_of(code) {
+        Some(Form::Prefix) => read_prefixed(reader, *canonical, lists, code, to),
+        Some(form) => read_by(
+            reader,
+            *canonical,
+            lists,
+            Code {
+                form,
+                number,
+                offset,
+            },
+            to,
+        ),
+        None => Err(ReadError::illegal(number, offset)),
     }
 }
 
@@ -675,7 +707,7 @@ pub fn read_operator_into<'l>(
         Some(Form::Numeric) => numeric(u32::from(code), offset, to),
         Some(Form::Plain) => plain_op(u32::from(code), offset, to),
         Some(Form::I32) => read_i32(reader, to),
-        form => read_rare(reader, canonical, lists, form, code, offset, to),
+        _ => read_rare(reader, canonical, lists, code, to),
     }
 }
 

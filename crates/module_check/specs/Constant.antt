@@ -9,7 +9,8 @@ use Rattle.module_check.specs.declared.constant.ConstantPlace.{ConstantPlace}
 -- any in the body of a function, constant ones in a constant expression
 abbrev pub may_stand : Option ConstantPlace → Op → Bool
 may_stand None op = true
-may_stand (Some at) op = is_constant_in at.features (declarations_of at.declared.now) at.place op
+may_stand (Some at) op =
+    is_constant_in at.context.features (declarations_of at.context.declared.now) at.context.place op
 
 -- each of these, beside its offset
 abbrev pub each_may_stand : (Op → Bool) → List (Op × ℕ) → Bool

@@ -1,5 +1,5 @@
 -- What a module's verdict says (the crate's own).
-use Rattle.std.specs.Prelude.{◌≡◌, ◌≢◌, ◌<◌, ◌≤◌, ℕ, Option, Some, None}
+use Rattle.std.specs.Prelude.{◌≡◌, ◌≢◌, ◌<◌, ◌≤◌, ℕ, ◌+◌, ◌-◌, ◌^◌, min, Option, Some, None}
 use Rattle.module_check.specs.declared.outcome.Outcome.{Outcome}
 use Rattle.module_check.specs.declared.outcome.Outcome.TheVariants.{Valid, Invalid, Unreadable}
 use Rattle.module_check.specs.declared.outcome.Outcome.TheVariants.{Malformed as IsMalformed}
@@ -24,14 +24,6 @@ pub record IsConsistent (room : ℕ) (v : ModuleVerdict) : Type 0 where
 -- the status says that something isn't accepted: not everything is, and memory didn't run out
 abbrev pub SaysNo : ℕ → Type 0
 SaysNo status = (status ≢ 0) × (status ≢ 3)
-
--- the status of one verdict
-abbrev pub status_of : Verdict → ℕ
-status_of Accepted = 0
-status_of (Refused e) = 1
-status_of (Malformed e) = 2
-status_of OutOfMemory = 3
-status_of (NotCovered offset) = 4
 
 -- what a verdict comes to
 abbrev pub outcome_of : Verdict → Outcome
@@ -58,6 +50,26 @@ status IsMalformed = 2
 status IsOutOfMemory = 3
 status IsNotCovered = 4
 status Unreadable = 5
+
+-- the status of one verdict
+abbrev pub status_of : Verdict → ℕ
+status_of verdict = status (outcome_of verdict)
+
+-- how many bodies and constant expressions are counted
+abbrev pub total : ModuleVerdict → ℕ
+total v = v.accepted + v.refused + v.not_covered
+
+-- one more than so many, as far as 64 bits go
+abbrev pub one_more : ℕ → ℕ
+one_more count = min (count + 1) (2 ^ 64 - 1)
+
+-- one verdict more is counted, unless memory ran out
+abbrev pub counted_with : Verdict → ModuleVerdict → ModuleVerdict
+counted_with Accepted v = record v { accepted = one_more v.accepted }
+counted_with (Refused e) v = record v { refused = one_more v.refused }
+counted_with (Malformed e) v = record v { refused = one_more v.refused }
+counted_with OutOfMemory v = v
+counted_with (NotCovered offset) v = record v { not_covered = one_more v.not_covered }
 
 -- the kind of what is checked, and its index; nothing is the module as a whole
 abbrev pub kind_of : Item → ℕ

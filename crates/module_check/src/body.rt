@@ -22,42 +22,53 @@ use validate_resources::WasmModuleResources;
 use validate_types::WasmFeatures;
 use validate_visit::BodyKind;
 
+/// What a body is checked in.
+#[derive(Drop)]
+pub struct BodyContext<'m, R> {
+    /// The lookup.
+    pub resources: &'m R,
+    /// The proposals that are on.
+    pub features: &'m WasmFeatures,
+    /// The types by which indices are read.
+    pub types: CanonicalTypes<'m>,
+    /// The place of a constant expression, in which each operator is to be constant.
+    pub constant: Option<ConstantPlace<'m>>,
+}
+
 /// Reads the locals of a body of this kind, if it has some, and its operators up to the end of the bytes, and
-/// checks them by its validator, which is new. In a constant expression each is to be constant.
+/// checks them by its validator, which is new.
 fn check_body_from<R: WasmModuleResources>(
     v: &mut OperatorValidator,
-    resources: &R,
+    context: &BodyContext<'_, R>,
     reader: &mut BinaryReader<'_>,
-    canonical: CanonicalTypes<'_>,
     lists: &mut OperatorLists,
     kind: BodyKind,
-    constant: Option<ConstantPlace<'_>>,
 ) -> Result<(), CheckError>
-    requires { IsStarting (R.context resources.now) (state v.old) }
+    requires { IsStarting (R.context context.now.resources.now) (state v.old) }
     ensures accepted { OnOk result ((features : WasmFeatures)
-        → IsBodyStart (R.context resources.now) features kind (state v.old)
-        → IsSafeCode (R.context resources.now) features canonical.entry kind (may_stand constant.entry)
-        reader.old.left) }
+        → IsBodyStart (R.context context.now.resources.now) features kind (state v.old)
+        → IsSafeCode (R.context context.now.resources.now) features context.now.types kind
+        (may_stand context.now.constant) reader.old.left) }
     ensures refused { IfErr result (λ e. IsRefusal e → (features : WasmFeatures)
-        → IsBodyStart (R.context resources.now) features kind (state v.old)
-        → ¬ IsAcceptedCode (R.context resources.now) features canonical.entry kind (may_stand constant.entry)
-        reader.old.left) }
+        → IsBodyStart (R.context context.now.resources.now) features kind (state v.old)
+        → ¬ IsAcceptedCode (R.context context.now.resources.now) features context.now.types kind
+        (may_stand context.now.constant) reader.old.left) }
 {
     match kind {
         BodyKind::Function(_) => {
-            define_locals(v, resources, reader, canonical)?;
-            check_operators(v, resources, reader, canonical, lists, constant)?;
+            define_locals(v, context.resources, reader, context.types)?;
+            check_operators(v, context, reader, lists)?;
             Ok(())
         }
         BodyKind::Expression(_) => {
-            check_operators(v, resources, reader, canonical, lists, constant)?;
+            check_operators(v, context, reader, lists)?;
             Ok(())
         }
     }
 }
 
 /// Reads a body of this kind, up to the end of the bytes, and checks it as it is read: that of a function, or a
-/// constant expression in this place.
+/// constant expression in the place that the context has.
 ///
 /// - `Accepted`: all of the bytes were read, each operator is accepted, and the last closes the body. Then no run of
 ///   these operators gets stuck, from the start that the kind and the locals make, and what it returns fits the
@@ -71,19 +82,17 @@ fn check_body_from<R: WasmModuleResources>(
 /// Unless memory runs out, a body is accepted exactly if its bytes are locals and operators whose rules all hold. Vector
 /// operators have no rule here.
 pub fn check_body<R: WasmModuleResources>(
-    resources: &R,
-    features: &WasmFeatures,
+    context: &BodyContext<'_, R>,
     kind: BodyKind,
-    constant: Option<ConstantPlace<'_>>,
     reader: &mut BinaryReader<'_>,
-    canonical: CanonicalTypes<'_>,
     buffers: &mut BodyBuffers,
 ) -> Verdict
-    ensures accepted { result ≡ Accepted → IsSafeCode (R.context resources.now) features.now canonical.entry
-        kind (may_stand constant.entry) reader.old.left }
-    ensures refused { result ≢ Accepted → result ≢ OutOfMemory → ¬ IsAcceptedCode (R.context resources.now)
-        features.now canonical.entry kind (may_stand constant.entry) reader.old.left }
-    ensures covered { (offset : ℕ) → result ≡ NotCovered offset → has features.now simd ≡ true }
+    ensures accepted { result ≡ Accepted → IsSafeCode (R.context context.now.resources.now)
+        context.now.features.now context.now.types kind (may_stand context.now.constant) reader.old.left }
+    ensures refused { result ≢ Accepted → result ≢ OutOfMemory
+        → ¬ IsAcceptedCode (R.context context.now.resources.now) context.now.features.now context.now.types
+        kind (may_stand context.now.constant) reader.old.left }
+    ensures covered { (offset : ℕ) → result ≡ NotCovered offset → has context.now.features.now simd ≡ true }
 {
     let alloc = buffers.allocator();
     let BodyBuffers {
@@ -91,12 +100,10 @@ pub fn check_body<R: WasmModuleResources>(
         lists,
         ..
     } = buffers;
-    match validator.start_body(resources, features, kind, reader.offset()) {
+    match validator.start_body(context.resources, context.features, kind, reader.offset()) {
         Ok(()) => {
-            let checked = check_body_from(
-                validator, resources, reader, canonical, lists, kind, constant,
-            );
-            Verdict::of_check_in(alloc, checked).under(features)
+            let checked = check_body_from(validator, context, reader, lists, kind);
+            Verdict::of_check_in(alloc, checked).under(context.features)
         }
         Err(refusal) => Verdict::of_refusal(refusal),
     }

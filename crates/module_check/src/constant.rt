@@ -5,50 +5,34 @@ ghost use Rattle.module_check.specs.Constant.{may_stand};
 
 use crate::operator_names::operator_name;
 use crate::verdict::CheckError;
-use module_rules::{DeclaredModule, ModuleFeatures, Place, check_constant_operator};
+use module_rules::{ConstantContext, Fault, VisitName, check_constant_operator};
 use std::alloc::Global;
-use std::fmt;
-use validate_types::Error;
-use validate_visit::{ControlOp, Op, ReferenceOp, SharedOp};
+use validate_visit::{ControlOp, Op, ReferenceOp};
 
 /// The place of a constant expression, in which each operator is constant.
 #[derive(Clone, Copy)]
 pub struct ConstantPlace<'m> {
     /// For the text of a refusal.
     pub alloc: Global,
-    /// The proposals that are on.
-    pub features: ModuleFeatures,
-    /// What the module declares.
-    pub declared: &'m DeclaredModule,
-    /// What the expression is for.
-    pub place: Place,
+    /// Where the expression stands.
+    pub context: ConstantContext<'m>,
     /// The module's bytes, for the name of an operator.
     pub bytes: &'m [u8],
-}
-
-/// The name of the visit of an operator: upstream has two for what the standard has one name for.
-#[derive(Clone, Copy)]
-struct VisitName<'n>(&'n str, &'static str);
-
-impl fmt::Display for VisitName<'_> {
-    fn fmt<W: fmt::Write>(&self, f: &mut fmt::Formatter<W>) -> fmt::Result {
-        f.write_str("visit_")?;
-        for letter in self.0.chars() {
-            f.write_char(if letter == '.' { '_' } else { letter })?;
-        }
-        f.write_str(self.1)
-    }
 }
 
 /// What stands behind a name to make that of the visit.
 fn visit_suffix(op: &Op<'_>) -> &'static str {
     match op {
-        Op::Reference(ReferenceOp::RefTestNonNull(_) | ReferenceOp::RefCastNonNull(_)) =>
-            "_non_null",
-        Op::Reference(ReferenceOp::RefTestNullable(_) | ReferenceOp::RefCastNullable(_)) =>
-            "_nullable",
-        Op::Reference(ReferenceOp::RefCastDescEqNonNull(_)) => "_non_null",
-        Op::Reference(ReferenceOp::RefCastDescEqNullable(_)) => "_nullable",
+        Op::Reference(
+            ReferenceOp::RefTestNonNull(_)
+            | ReferenceOp::RefCastNonNull(_)
+            | ReferenceOp::RefCastDescEqNonNull(_),
+        ) => "_non_null",
+        Op::Reference(
+            ReferenceOp::RefTestNullable(_)
+            | ReferenceOp::RefCastNullable(_)
+            | ReferenceOp::RefCastDescEqNullable(_),
+        ) => "_nullable",
         Op::Control(ControlOp::TypedSelectMulti(_)) => "_multi",
         _ => "",
     }
@@ -64,19 +48,16 @@ fn name_of(bytes: &[u8], op: &Op<'_>, offset: u64) -> Option<&'static str> {
     }
 }
 
-/// The refusal of an operator that is never constant, with its name; that of a global says why already.
-fn with_name(at: &ConstantPlace<'_>, op: &Op<'_>, refusal: Error) -> Error {
-    if let Op::Control(ControlOp::GlobalGet(_)) | Op::Shared(SharedOp::Global { .. }) = op {
-        return refusal;
-    }
-    let offset = refusal.offset();
-    let Some(name) = name_of(at.bytes, op, offset) else {
-        return refusal;
+/// The fault, with the name of the operator where it is one that is never constant: others say why already.
+fn with_name(fault: Fault, at: &ConstantPlace<'_>, op: &Op<'_>, offset: u64) -> Fault {
+    let Fault::NotConstant(None) = fault else {
+        return fault;
     };
-    let text = refusal.message();
-    let visit = VisitName(name, visit_suffix(op));
-    let text = format!(in at.alloc; "{text}: {visit}");
-    Error::from_text(text, offset)
+    let Some(operator) = name_of(at.bytes, op, offset) else {
+        return fault;
+    };
+    let suffix = visit_suffix(op);
+    Fault::NotConstant(Some(VisitName { operator, suffix }))
 }
 
 /// Refuses an operator that isn't constant in this place, at its offset.
@@ -88,16 +69,11 @@ pub(crate) fn check_constant(
     ensures constant { OnOk result (may_stand (Some at.now) op.now ≡ true) }
     ensures refused { OnErr result (may_stand (Some at.now) op.now ≡ false) }
 {
-    let checked = check_constant_operator(
-        at.alloc,
-        at.features,
-        at.declared,
-        at.place,
-        *op,
-        offset,
-    );
-    match checked {
+    match check_constant_operator(&at.context, *op) {
         Ok(()) => Ok(()),
-        Err(refusal) => Err(CheckError::Refused(with_name(at, op, refusal))),
+        Err(fault) => {
+            let named = with_name(fault, at, op, offset);
+            Err(CheckError::Refused(named.at(offset).refusal(at.alloc)))
+        }
     }
 }

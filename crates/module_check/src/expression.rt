@@ -11,10 +11,11 @@ ghost use Rattle.module_check.specs.Constant.{may_stand};
 ghost use Rattle.module_check.specs.Refusals.{IsRefusal};
 ghost use Rattle.module_check.specs.Safe.{AreSafeOperators};
 
+use crate::body::BodyContext;
 use crate::constant::{ConstantPlace, check_constant};
 use crate::operators::{check_end, unclosed};
 use crate::verdict::CheckError;
-use binary_operators::{BinaryReader, CanonicalTypes, OperatorLists, read_operator_into};
+use binary_operators::{BinaryReader, OperatorLists, read_operator_into};
 use validate_body::OperatorValidator;
 use validate_resources::WasmModuleResources;
 use validate_visit::{NumericOp, Op};
@@ -43,17 +44,17 @@ fn check_operator<R: WasmModuleResources>(
 /// its place.
 pub(crate) fn check_constant_operators<R: WasmModuleResources>(
     v: &mut OperatorValidator,
-    resources: &R,
+    context: &BodyContext<'_, R>,
     reader: &mut BinaryReader<'_>,
-    canonical: CanonicalTypes<'_>,
     lists: &mut OperatorLists,
     place: ConstantPlace<'_>,
 ) -> Result<(), CheckError>
-    requires { IsStarting (R.context resources.now) (state v.old) }
-    ensures accepted { OnOk result (AreSafeOperators (R.context resources.now) canonical.entry
+    requires { IsStarting (R.context context.now.resources.now) (state v.old) }
+    ensures accepted { OnOk result (AreSafeOperators (R.context context.now.resources.now) context.now.types
         (may_stand (Some place.entry)) (state v.old) reader.old.left) }
-    ensures refused { IfErr result (λ e. IsRefusal e → ¬ AreAcceptedOperators (R.context resources.now)
-        canonical.entry (may_stand (Some place.entry)) (state v.old) reader.old.left) }
+    ensures refused { IfErr result (λ e. IsRefusal e
+        → ¬ AreAcceptedOperators (R.context context.now.resources.now) context.now.types
+        (may_stand (Some place.entry)) (state v.old) reader.old.left) }
 {
     for _ in 0..reader.bytes_left() {
         if reader.is_at_end() {
@@ -61,8 +62,8 @@ pub(crate) fn check_constant_operators<R: WasmModuleResources>(
         }
         let offset = reader.offset();
         let mut op = Op::Numeric(NumericOp::I32Const(0));
-        read_operator_into(reader, &canonical, lists, &mut op)?;
-        check_operator(v, resources, offset, &op, &place)?;
+        read_operator_into(reader, &context.types, lists, &mut op)?;
+        check_operator(v, context.resources, offset, &op, &place)?;
         if v.control_stack_height() == 0 {
             return check_end(reader.duplicate());
         }

@@ -20,7 +20,7 @@ mod unbodied;
 mod verdict;
 mod whole;
 
-pub use crate::body::check_body;
+pub use crate::body::{BodyContext, check_body};
 pub use crate::buffers::BodyBuffers;
 pub use crate::code::CodeReader;
 pub use crate::constant::ConstantPlace;
@@ -34,4 +34,4 @@ pub use crate::verdict::{CheckError, Item, ItemName, Verdict};
 pub use crate::whole::{check_function, check_module};
 pub use binary_modules::{ConstantExpression, FunctionNames};
 pub use binary_operators::{CanonicalTypes, OperatorLists, ReadError};
-pub use module_rules::{ModuleFeatures, Place};
+pub use module_rules::{ConstantContext, ModuleFeatures, Place};

@@ -11,7 +11,7 @@ ghost use Rattle.validate_resources.specs.Kept.{declared_lists};
 ghost use Rattle.validate_resources.specs.Lists.{context_of, module_of};
 ghost use Rattle.module_check.specs.declared.verdict.Verdict.TheVariants.{Accepted};
 
-use crate::body::check_body;
+use crate::body::{BodyContext, check_body};
 use crate::buffers::BodyBuffers;
 use crate::code::CodeReader;
 use crate::constant::ConstantPlace;
@@ -19,7 +19,9 @@ use crate::unbodied::LoadedDeclarations;
 use crate::verdict::Verdict;
 use binary_modules::{ConstantExpression, FunctionNames, Module, read_function_names, read_module};
 use binary_operators::{BinaryReader, CanonicalTypes, ReadError};
-use module_rules::{DeclaredModule, ModuleFeatures, expression_type, valid_lookup};
+use module_rules::{
+    ConstantContext, DeclaredModule, ModuleFeatures, expression_type, valid_lookup,
+};
 use std::alloc::Global;
 use validate_resources::{ModuleLists, WasmModuleResources};
 use validate_types::Error;
@@ -268,16 +270,15 @@ impl<'a> LoadedModule<'a> {
             → has (operator_features self.now.features) simd ≡ true }
     {
         let mut reader = bytes.duplicate();
+        let features = self.features.operator_features();
         let types = self.types();
-        check_body(
-            &self.lists,
-            &self.features.operator_features(),
-            kind,
-            constant,
-            &mut reader,
+        let context = BodyContext {
+            resources: &self.lists,
+            features: &features,
             types,
-            buffers,
-        )
+            constant,
+        };
+        check_body(&context, kind, &mut reader, buffers)
     }
 
     /// Checks the body of the function at this index, as it stands in the bytes of this module. If the module has no
@@ -327,9 +328,11 @@ impl<'a> LoadedModule<'a> {
         };
         let constant = ConstantPlace {
             alloc: buffers.allocator(),
-            features: self.features,
-            declared: &self.declared,
-            place,
+            context: ConstantContext {
+                features: self.features,
+                declared: &self.declared,
+                place,
+            },
             bytes: self.bytes,
         };
         self.check_bytes(

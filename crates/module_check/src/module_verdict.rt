@@ -1,18 +1,17 @@
 //! What the check of a module comes to.
 
-ghost use Rattle.std.specs.Prelude.{◌≡◌, ◌≢◌, ◌⊎◌, ◌<◌, ◌≤◌, length, take};
+ghost use Rattle.std.specs.Prelude.{◌≡◌, ◌≢◌, ◌⊎◌, ◌<◌, ◌≤◌, ◌+◌, ◌-◌, ◌^◌, length, take};
 ghost use Rattle.module_check.specs.declared.verdict.Verdict.TheVariants.{Accepted, OutOfMemory};
-ghost use Rattle.module_check.specs.Verdicts.{IsConsistent, SaysNo, status_of, item_kind, item_index, Reports};
+ghost use Rattle.module_check.specs.Verdicts.{IsConsistent, SaysNo, status_of, item_kind, item_index, Reports, counted_with, total};
 
-use crate::outcome::{INVALID, MALFORMED, NOT_COVERED, OUT_OF_MEMORY, VALID};
-use crate::reasons::reason_number;
+use crate::outcome::{Outcome, VALID};
 use crate::verdict::{Item, Verdict};
 
 /// The kind of what is reported where it is the module as a whole.
 const MODULE: u32 = 6;
 
-/// The verdict on a module, as C lays it out. It reports one finding: the first of the gravest kind. The kinds are, the
-/// gravest first: out of memory, malformed, not valid, not covered.
+/// The verdict on a module, as C lays it out. It reports one finding: the first of the gravest kind, as
+/// [`Outcome::is_graver`] has these.
 #[repr(C)]
 #[derive(Drop)]
 pub struct ModuleVerdict {
@@ -70,6 +69,7 @@ impl ModuleVerdict {
         ensures accepted { result.status ≡ 0 }
         ensures refused { result.refused ≡ 0 }
         ensures not_covered { result.not_covered ≡ 0 }
+        ensures counted { total result ≡ 0 }
         ensures text { result.text_length ≡ 0 }
         ensures needed { result.text_needed ≡ 0 }
     {
@@ -114,29 +114,22 @@ impl ModuleVerdict {
         self.text_needed = message.len();
     }
 
-    /// Counts what is refused.
-    fn count_refused(&mut self)
-        ensures counted { 0 < self.new.refused }
-        ensures kept { self.new ≡ record self.old { refused = self.new.refused } }
+    /// Counts what a verdict is about.
+    fn count(&mut self, verdict: &Verdict)
+        ensures { self.new ≡ counted_with verdict.now self.old }
     {
-        self.refused = self.refused.saturating_add(1);
-    }
-
-    /// Counts what isn't covered, at this offset, and reports it where nothing else is reported.
-    fn note_not_covered(&mut self, item: Option<Item>, offset: u64, text: &mut [u8])
-        requires { IsConsistent (length text.old) self.old }
-        ensures consistent { IsConsistent (length text.new) self.new }
-        ensures not_accepted { self.new.status ≢ 0 }
-        ensures first { self.old.status ≡ 0 → (self.new.status ≡ 4) × Reports item self.new }
-        ensures known { self.old.status ≤ 4 → self.new.status ≤ 4 }
-    {
-        self.not_covered = self.not_covered.saturating_add(1);
-        if self.status == VALID {
-            self.report(NOT_COVERED, item, offset, "a vector operator", text);
+        match verdict {
+            Verdict::Accepted => self.accepted = self.accepted.saturating_add(1),
+            Verdict::Refused(_) | Verdict::Malformed(_) => {
+                self.refused = self.refused.saturating_add(1);
+            }
+            Verdict::NotCovered(_) => self.not_covered = self.not_covered.saturating_add(1),
+            Verdict::OutOfMemory => {}
         }
     }
 
-    /// Counts a verdict on the item, or on the module, and reports it where it weighs more than what is reported.
+    /// Counts a verdict on the item, or on the module, and reports it where it is graver than what is reported. If memory ran
+    /// out, nothing is counted.
     pub fn note(&mut self, verdict: &Verdict, item: Option<Item>, text: &mut [u8])
         requires { IsConsistent (length text.old) self.old }
         ensures consistent { IsConsistent (length text.new) self.new }
@@ -146,28 +139,21 @@ impl ModuleVerdict {
         ensures first { self.old.status ≡ 0 → self.new.status ≡ status_of verdict.now }
         ensures reported { self.old.status ≡ 0 → self.new.status ≢ 0 → Reports item self.new }
         ensures known { self.old.status ≤ 4 → self.new.status ≤ 4 }
+        ensures counted { self.new.status ≢ 3 → (self.old.status ≢ 3)
+            × (total self.old < 2 ^ 64 - 1 → total self.new ≡ total self.old + 1) }
     {
-        match verdict {
-            Verdict::Accepted => self.accepted = self.accepted.saturating_add(1),
-            Verdict::Refused(refusal) => {
-                self.count_refused();
-                if self.status == VALID || self.status == NOT_COVERED {
-                    self.report(INVALID, item, refusal.offset(), refusal.message(), text);
-                    self.reason = reason_number(refusal);
-                }
-            }
-            Verdict::Malformed(refusal) => {
-                self.count_refused();
-                if self.status != OUT_OF_MEMORY && self.status != MALFORMED {
-                    self.report(MALFORMED, item, refusal.offset(), refusal.message(), text);
-                }
-            }
-            Verdict::NotCovered(offset) => self.note_not_covered(item, *offset, text),
-            Verdict::OutOfMemory => {
-                if self.status != OUT_OF_MEMORY {
-                    self.report(OUT_OF_MEMORY, item, 0, "out of memory", text);
-                }
-            }
+        self.count(verdict);
+        let outcome = Outcome::of(verdict);
+        if !outcome.is_graver(Outcome::of_status(self.status)) {
+            return;
         }
+        self.report(
+            outcome.status(),
+            item,
+            verdict.offset(),
+            verdict.message(),
+            text,
+        );
+        self.reason = verdict.reason();
     }
 }

@@ -14,8 +14,8 @@ ghost use Rattle.module_check.specs.Refusals.{IsRefusal, IsInvalid};
 ghost use Rattle.module_check.specs.Safe.{AreSafeOperators};
 ghost use Rattle.module_check.specs.Turns.{IsTurn};
 
+use crate::body::BodyContext;
 use crate::common::passes_common;
-use crate::constant::ConstantPlace;
 use crate::expression::check_constant_operators;
 use crate::told::passes_told;
 use crate::verdict::CheckError;
@@ -97,19 +97,18 @@ pub(crate) fn unclosed(offset: u64) -> CheckError {
 #[inline(never)]
 fn is_any_accepted<R: WasmModuleResources>(
     v: &mut OperatorValidator,
-    resources: &R,
+    context: &BodyContext<'_, R>,
     reader: &mut BinaryReader<'_>,
-    canonical: &CanonicalTypes<'_>,
     lists: &mut OperatorLists,
     refusal: &mut Option<CheckError>,
 ) -> bool
-    requires { MayVisit (R.context resources.now) (stacks_of v.old) }
-    ensures turn { result ≡ true → IsTurn (R.context resources.now) canonical.now reader.old.left reader.new.left
-        (state v.old) (state v.new) }
+    requires { MayVisit (R.context context.now.resources.now) (stacks_of v.old) }
+    ensures turn { result ≡ true → IsTurn (R.context context.now.resources.now) context.now.types reader.old.left
+        reader.new.left (state v.old) (state v.new) }
     ensures told { result ≡ false → IsSome refusal.new }
     ensures refused { result ≡ false → IfSome refusal.new (λ e. IsRefusal e
-        → ¬ AreAcceptedOperators (R.context resources.now) canonical.now (may_stand None) (state v.old)
-        reader.old.left) }
+        → ¬ AreAcceptedOperators (R.context context.now.resources.now) context.now.types (may_stand None)
+        (state v.old) reader.old.left) }
 {
     let offset = reader.offset();
     if reader.is_at_end() {
@@ -117,90 +116,96 @@ fn is_any_accepted<R: WasmModuleResources>(
         return false;
     }
     let mut op = Op::Numeric(NumericOp::I32Const(0));
-    if let Err(error) = read_operator_into(reader, canonical, lists, &mut op) {
+    if let Err(error) = read_operator_into(reader, &context.types, lists, &mut op) {
         *refusal = Some(CheckError::Unread(error));
         return false;
     }
-    is_accepted(v, resources, offset, &op, refusal)
+    is_accepted(v, context.resources, offset, &op, refusal)
 }
 
 /// [`is_any_accepted`], which tries first whether the first byte tells how the operator is read.
 #[inline(always)]
 fn is_read_accepted<R: WasmModuleResources>(
     v: &mut OperatorValidator,
-    resources: &R,
+    context: &BodyContext<'_, R>,
     reader: &mut BinaryReader<'_>,
-    canonical: &CanonicalTypes<'_>,
     lists: &mut OperatorLists,
     refusal: &mut Option<CheckError>,
 ) -> bool
-    requires { MayVisit (R.context resources.now) (stacks_of v.old) }
-    ensures turn { result ≡ true → IsTurn (R.context resources.now) canonical.now reader.old.left reader.new.left
-        (state v.old) (state v.new) }
+    requires { MayVisit (R.context context.now.resources.now) (stacks_of v.old) }
+    ensures turn { result ≡ true → IsTurn (R.context context.now.resources.now) context.now.types reader.old.left
+        reader.new.left (state v.old) (state v.new) }
     ensures told { result ≡ false → IsSome refusal.new }
     ensures refused { result ≡ false → IfSome refusal.new (λ e. IsRefusal e
-        → ¬ AreAcceptedOperators (R.context resources.now) canonical.now (may_stand None) (state v.old)
-        reader.old.left) }
+        → ¬ AreAcceptedOperators (R.context context.now.resources.now) context.now.types (may_stand None)
+        (state v.old) reader.old.left) }
 {
-    passes_told(v, resources, reader)
-        || is_any_accepted(v, resources, reader, canonical, lists, refusal)
+    passes_told(v, context.resources, reader) || is_any_accepted(v, context, reader, lists, refusal)
 }
 
-/// [`is_read_accepted`], which tries first whether it is one of those that most code is made of. The call is lent another
-/// reader, so that this one needn't lie in memory.
+/// [`is_read_accepted`] by another reader, so that this one needn't lie in memory. It is a function of its own, since what a
+/// function declares is cleared where it begins.
 #[inline(always)]
-fn is_next_accepted<'a, R: WasmModuleResources>(
+fn is_lent_accepted<R: WasmModuleResources>(
     v: &mut OperatorValidator,
-    resources: &R,
-    reader: &mut BinaryReader<'a>,
-    lent: &mut BinaryReader<'a>,
-    canonical: &CanonicalTypes<'_>,
+    context: &BodyContext<'_, R>,
+    reader: &mut BinaryReader<'_>,
     lists: &mut OperatorLists,
     refusal: &mut Option<CheckError>,
 ) -> bool
-    requires { MayVisit (R.context resources.now) (stacks_of v.old) }
-    ensures turn { result ≡ true → IsTurn (R.context resources.now) canonical.now reader.old.left reader.new.left
-        (state v.old) (state v.new) }
+    requires { MayVisit (R.context context.now.resources.now) (stacks_of v.old) }
+    ensures turn { result ≡ true → IsTurn (R.context context.now.resources.now) context.now.types reader.old.left
+        reader.new.left (state v.old) (state v.new) }
     ensures told { result ≡ false → IsSome refusal.new }
     ensures refused { result ≡ false → IfSome refusal.new (λ e. IsRefusal e
-        → ¬ AreAcceptedOperators (R.context resources.now) canonical.now (may_stand None) (state v.old)
-        reader.old.left) }
+        → ¬ AreAcceptedOperators (R.context context.now.resources.now) context.now.types (may_stand None)
+        (state v.old) reader.old.left) }
 {
-    if passes_common(v, resources, reader) {
-        return true;
-    }
-    *lent = reader.duplicate();
-    let is_accepted = is_read_accepted(v, resources, lent, canonical, lists, refusal);
+    let mut lent = reader.duplicate();
+    let is_accepted = is_read_accepted(v, context, &mut lent, lists, refusal);
     *reader = lent.duplicate();
     is_accepted
+}
+
+/// [`is_lent_accepted`], which tries first whether it is one of those that most code is made of.
+#[inline(always)]
+fn is_next_accepted<R: WasmModuleResources>(
+    v: &mut OperatorValidator,
+    context: &BodyContext<'_, R>,
+    reader: &mut BinaryReader<'_>,
+    lists: &mut OperatorLists,
+    refusal: &mut Option<CheckError>,
+) -> bool
+    requires { MayVisit (R.context context.now.resources.now) (stacks_of v.old) }
+    ensures turn { result ≡ true → IsTurn (R.context context.now.resources.now) context.now.types reader.old.left
+        reader.new.left (state v.old) (state v.new) }
+    ensures told { result ≡ false → IsSome refusal.new }
+    ensures refused { result ≡ false → IfSome refusal.new (λ e. IsRefusal e
+        → ¬ AreAcceptedOperators (R.context context.now.resources.now) context.now.types (may_stand None)
+        (state v.old) reader.old.left) }
+{
+    passes_common(v, context.resources, reader)
+        || is_lent_accepted(v, context, reader, lists, refusal)
 }
 
 /// [`check_operators`] of a function, in which any operator may stand.
 fn check_function_operators<R: WasmModuleResources>(
     v: &mut OperatorValidator,
-    resources: &R,
-    lent: &mut BinaryReader<'_>,
-    canonical: CanonicalTypes<'_>,
+    context: &BodyContext<'_, R>,
+    code: &BinaryReader<'_>,
     lists: &mut OperatorLists,
 ) -> Result<(), CheckError>
-    requires { IsStarting (R.context resources.now) (state v.old) }
-    ensures accepted { OnOk result (AreSafeOperators (R.context resources.now) canonical.entry (may_stand None)
-        (state v.old) lent.old.left) }
-    ensures refused { IfErr result (λ e. IsRefusal e → ¬ AreAcceptedOperators (R.context resources.now)
-        canonical.entry (may_stand None) (state v.old) lent.old.left) }
+    requires { IsStarting (R.context context.now.resources.now) (state v.old) }
+    ensures accepted { OnOk result (AreSafeOperators (R.context context.now.resources.now) context.now.types
+        (may_stand None) (state v.old) code.now.left) }
+    ensures refused { IfErr result (λ e. IsRefusal e
+        → ¬ AreAcceptedOperators (R.context context.now.resources.now) context.now.types (may_stand None)
+        (state v.old) code.now.left) }
 {
     let mut refusal = None;
-    let mut reader = lent.duplicate();
-    for _ in 0..lent.bytes_left() {
-        if !is_next_accepted(
-            v,
-            resources,
-            &mut reader,
-            lent,
-            &canonical,
-            lists,
-            &mut refusal,
-        ) {
+    let mut reader = code.duplicate();
+    for _ in 0..code.bytes_left() {
+        if !is_next_accepted(v, context, &mut reader, lists, &mut refusal) {
             break;
         }
         if v.control_stack_height() == 0 {
@@ -218,21 +223,20 @@ fn check_function_operators<R: WasmModuleResources>(
 /// body; in a constant expression, one that isn't constant; and, at the end, a body that is open.
 pub(crate) fn check_operators<R: WasmModuleResources>(
     v: &mut OperatorValidator,
-    resources: &R,
+    context: &BodyContext<'_, R>,
     reader: &mut BinaryReader<'_>,
-    canonical: CanonicalTypes<'_>,
     lists: &mut OperatorLists,
-    constant: Option<ConstantPlace<'_>>,
 ) -> Result<(), CheckError>
-    requires { IsStarting (R.context resources.now) (state v.old) }
-    ensures accepted { OnOk result (AreSafeOperators (R.context resources.now) canonical.entry
-        (may_stand constant.entry) (state v.old) reader.old.left) }
-    ensures refused { IfErr result (λ e. IsRefusal e → ¬ AreAcceptedOperators (R.context resources.now)
-        canonical.entry (may_stand constant.entry) (state v.old) reader.old.left) }
+    requires { IsStarting (R.context context.now.resources.now) (state v.old) }
+    ensures accepted { OnOk result (AreSafeOperators (R.context context.now.resources.now) context.now.types
+        (may_stand context.now.constant) (state v.old) reader.old.left) }
+    ensures refused { IfErr result (λ e. IsRefusal e
+        → ¬ AreAcceptedOperators (R.context context.now.resources.now) context.now.types
+        (may_stand context.now.constant) (state v.old) reader.old.left) }
 {
-    match constant {
-        None => check_function_operators(v, resources, reader, canonical, lists),
-        Some(place) => { check_constant_operators(v, resources, reader, canonical, lists, place) }
+    match context.constant {
+        None => check_function_operators(v, context, reader, lists),
+        Some(place) => check_constant_operators(v, context, reader, lists, place),
     }
 }
 

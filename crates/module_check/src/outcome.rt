@@ -1,6 +1,6 @@
 //! What checks come to, each with its status, its word and its weight: the one list of these.
 
-ghost use Rattle.std.specs.Prelude.{◌≡◌, nat_lt};
+ghost use Rattle.std.specs.Prelude.{◌≡◌, min, nat_lt};
 ghost use Rattle.module_check.specs.Verdicts.{outcome_of, status, weight};
 ghost use Rattle.module_check.specs.declared.outcome.Outcome.TheVariants.{Valid};
 
@@ -59,6 +59,20 @@ impl Outcome {
             Verdict::Refused(_) => Outcome::Invalid,
             Verdict::Malformed(_) => Outcome::Malformed,
             Verdict::OutOfMemory => Outcome::OutOfMemory,
+        }
+    }
+
+    /// The outcome that has this status. What no check comes to is taken for what can't be read.
+    pub(crate) fn of_status(number: u32) -> Outcome
+        ensures { status result ≡ min number 5 }
+    {
+        match number {
+            VALID => Outcome::Valid,
+            INVALID => Outcome::Invalid,
+            MALFORMED => Outcome::Malformed,
+            OUT_OF_MEMORY => Outcome::OutOfMemory,
+            NOT_COVERED => Outcome::NotCovered,
+            _ => Outcome::Unreadable,
         }
     }
 

@@ -8,6 +8,7 @@ ghost use Rattle.module_check.specs.declared.verdict.Verdict.TheVariants.{Accept
 ghost use Rattle.validate_types.specs.Features.{has, simd};
 ghost use Rattle.validate_types.specs.declared.error.Error.{Error};
 
+use crate::reasons::reason_number;
 use binary_operators::{Cause, Fault, ReadError};
 use module_rules::Place;
 use std::alloc::Global;
@@ -172,6 +173,33 @@ impl Verdict {
             Verdict::OutOfMemory
         } else {
             Verdict::Refused(refusal)
+        }
+    }
+
+    /// The offset that it tells, or 0.
+    pub fn offset(&self) -> u64 {
+        match self {
+            Verdict::Refused(refusal) | Verdict::Malformed(refusal) => refusal.offset(),
+            Verdict::NotCovered(offset) => *offset,
+            Verdict::Accepted | Verdict::OutOfMemory => 0,
+        }
+    }
+
+    /// What it says, in words: nothing of what is accepted.
+    pub fn message(&self) -> &str {
+        match self {
+            Verdict::Accepted => "",
+            Verdict::Refused(refusal) | Verdict::Malformed(refusal) => refusal.message(),
+            Verdict::NotCovered(_) => "a vector operator",
+            Verdict::OutOfMemory => "out of memory",
+        }
+    }
+
+    /// The number of the reason, where an operator's rule refuses, or 0.
+    pub(crate) fn reason(&self) -> u32 {
+        match self {
+            Verdict::Refused(refusal) => reason_number(refusal),
+            _ => 0,
         }
     }
 

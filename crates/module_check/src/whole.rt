@@ -1,9 +1,10 @@
 //! The check of a module.
 
-ghost use Rattle.std.specs.Prelude.{◌≡◌, ◌⊎◌, ◌≤◌, length};
+ghost use Rattle.std.specs.Prelude.{◌≡◌, ◌≢◌, ◌⊎◌, ◌≤◌, length};
+ghost use Rattle.module_check.specs.Items.{item_count};
 ghost use Rattle.module_check.specs.Loaded.{IsAcceptedFunction, IsAcceptedModule};
 ghost use Rattle.module_check.specs.Loaded.{IsSafeFunction, IsValid};
-ghost use Rattle.module_check.specs.Verdicts.{IsConsistent, SaysNo};
+ghost use Rattle.module_check.specs.Verdicts.{IsConsistent, SaysNo, total};
 
 use crate::buffers::BodyBuffers;
 use crate::items::{check_item, item_count};
@@ -25,6 +26,7 @@ pub fn check_function(
         × IsSafeFunction module.now function }
     ensures refused { SaysNo out.new.status → SaysNo out.old.status ⊎ ¬ IsAcceptedFunction module.now function }
     ensures known { out.old.status ≤ 4 → out.new.status ≤ 4 }
+    ensures counted { out.new.status ≢ 3 → total out.old ≡ 0 → total out.new ≡ 1 }
 {
     let verdict = module.check_function(function, buffers);
     out.note(&verdict, Some(Item::Function(function)), text);
@@ -36,7 +38,8 @@ pub fn check_function(
 /// were checked as it was read; each body and each constant expression is type safe; the operators of constant
 /// expressions are constant.
 ///
-/// If it is neither 0 nor that of out of memory, it was neither before, or one of them isn't accepted.
+/// If it is neither 0 nor that of out of memory, it was neither before, or one of them isn't accepted. Unless it is that of
+/// out of memory, each of them is counted.
 pub fn check_module(
     module: &LoadedModule<'_>,
     buffers: &mut BodyBuffers,
@@ -48,6 +51,7 @@ pub fn check_module(
     ensures accepted { out.new.status ≡ 0 → IsValid module.now }
     ensures refused { SaysNo out.new.status → SaysNo out.old.status ⊎ ¬ IsAcceptedModule module.now }
     ensures known { out.old.status ≤ 4 → out.new.status ≤ 4 }
+    ensures counted { out.new.status ≢ 3 → total out.old ≡ 0 → total out.new ≡ item_count module.now }
 {
     for place in 0..item_count(module) {
         let checked = check_item(module, place, buffers);

@@ -1,6 +1,6 @@
 //! Constant expressions (WebAssembly core specification, "Validation: Instructions", "Constant Expressions").
 
-ghost use Rattle.std.specs.Prelude.{◌≡◌, ℕ, true, false, is_ok, take, slice_get, OnOk, OnErr};
+ghost use Rattle.std.specs.Prelude.{◌≡◌, ℕ, is_ok, take, slice_get};
 ghost use Rattle.module_rules.specs.Constants.{is_constant_binary, is_constant_numeric, is_constant_reference, is_constant_struct, is_constant_array, is_constant_operator, is_constant_in, is_immutable, may_name_global, known_globals, expression_type, element_address_type, data_address_type};
 ghost use Rattle.module_rules.specs.Declarations.{declarations_of};
 ghost use Rattle.module_rules.specs.declared.module.Place.{Place};
@@ -11,12 +11,22 @@ use crate::features::ModuleFeatures;
 use crate::items::{DeclaredGlobal, DeclaredMemory, DeclaredTable};
 use crate::module::{DeclaredModule, Place};
 use crate::segments::{DataKind, ElementKind};
-use std::alloc::Global;
-use validate_types::{Error, ValType};
+use validate_types::ValType;
 use validate_visit::{
     ArrayOp, ControlOp, Exchange, IntegerBinaryOp, NumericOp, Op, ReferenceOp, SharedOp, StructOp,
     Update,
 };
+
+/// Where a constant expression stands.
+#[derive(Clone, Copy)]
+pub struct ConstantContext<'m> {
+    /// The proposals that are on.
+    pub features: ModuleFeatures,
+    /// What the module declares.
+    pub declared: &'m DeclaredModule,
+    /// What the expression is for.
+    pub place: Place,
+}
 
 /// Whether an operator on two integers is constant.
 fn is_constant_binary(features: ModuleFeatures, op: IntegerBinaryOp) -> bool
@@ -118,7 +128,7 @@ fn check_constant(is_constant: bool) -> Result<(), Fault>
     if is_constant {
         return Ok(());
     }
-    Err(Fault::NotConstant)
+    Err(Fault::NotConstant(None))
 }
 
 /// An operator is constant, where the first so many globals may be named.
@@ -145,7 +155,7 @@ fn check_operator(
         Op::Struct(op) => check_constant(is_constant_struct(op)),
         Op::Array(op) => check_constant(is_constant_array(op)),
         Op::Control(ControlOp::End) | Op::Shared(SharedOp::RefI31Shared) => Ok(()),
-        _ => Err(Fault::NotConstant),
+        _ => Err(Fault::NotConstant(None)),
     }
 }
 
@@ -162,29 +172,16 @@ fn known_globals(declared: &DeclaredModule, place: Place) -> usize
     }
 }
 
-/// An operator of a constant expression in this place is constant. It refuses at the offset of the operator,
-/// and takes memory for a text alone.
+/// An operator of the constant expression that stands there is constant. What refuses it doesn't tell the operator's name.
 ///
 /// Where each operator of an expression is, the expression is constant. That its operators are valid, and its
 /// value is of its type, is the validator's to say.
-pub fn check_constant_operator(
-    alloc: Global,
-    features: ModuleFeatures,
-    declared: &DeclaredModule,
-    place: Place,
-    op: Op<'_>,
-    offset: u64,
-) -> Result<(), Error>
-    ensures valid { OnOk result (is_constant_in features (declarations_of declared.now) place op.entry
-        ≡ true) }
-    ensures invalid { OnErr result (is_constant_in features (declarations_of declared.now) place op.entry
-        ≡ false) }
+pub fn check_constant_operator(at: &ConstantContext<'_>, op: Op<'_>) -> Result<(), Fault>
+    ensures { is_ok result ≡ is_constant_in at.now.features (declarations_of at.now.declared.now) at.now.place
+        op.entry }
 {
-    let count = known_globals(declared, place);
-    match check_operator(features, declared, count, op) {
-        Ok(()) => Ok(()),
-        Err(fault) => Err(fault.at(offset).refusal(alloc)),
-    }
+    let count = known_globals(at.declared, at.place);
+    check_operator(at.features, at.declared, count, op)
 }
 
 /// The type of the addresses at which an element segment begins, if it goes to a table that is there.

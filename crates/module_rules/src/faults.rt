@@ -5,6 +5,15 @@ ghost use Rattle.std.specs.Prelude.{◌≡◌, is_ok};
 use crate::items::ExternalKind;
 use validate_types::RefType;
 
+/// The name of the visit of an operator, of two parts: upstream has two visits for what the standard has one name for.
+#[derive(Clone, Copy)]
+pub struct VisitName {
+    /// The name of the operator in the standard, and in the proposals.
+    pub operator: &'static str,
+    /// What stands behind it.
+    pub suffix: &'static str,
+}
+
 /// Why a declaration isn't valid: the first of its rules that doesn't hold.
 #[derive(Clone, Copy)]
 pub enum Fault {
@@ -137,8 +146,8 @@ pub enum Fault {
     /// Another number of data segments is said than there are.
     DataCount,
 
-    /// An operator isn't constant.
-    NotConstant,
+    /// An operator isn't constant: the name of its visit, where that is told.
+    NotConstant(Option<VisitName>),
     /// A constant expression names a global of the module's own, without the proposal of that.
     OwnGlobal,
     /// A constant expression names a global that can be written.

@@ -26,7 +26,8 @@ mod texts;
 mod types;
 mod validity;
 
-pub use crate::constants::{check_constant_operator, expression_type};
+pub use crate::constants::{ConstantContext, check_constant_operator, expression_type};
+pub use crate::faults::{Fault, Located, VisitName};
 pub use crate::features::ModuleFeatures;
 pub use crate::items::{
     DeclaredFunction, DeclaredGlobal, DeclaredMemory, DeclaredTable, DeclaredTag, Export,

@@ -1,9 +1,10 @@
 //! The texts of faults: wasmparser's, as far as they are known.
 
-use crate::faults::{Fault, Located};
+use crate::faults::{Fault, Located, VisitName};
 use crate::items::ExternalKind;
 use crate::limits::MAX_WASM_SUBTYPING_DEPTH;
 use std::alloc::{AllocError, Global};
+use std::fmt;
 use validate_types::{Error, RefType};
 
 /// The text of a fault, by its parts.
@@ -20,6 +21,18 @@ enum Wording {
     ElementMismatch(RefType, RefType),
     /// More supertypes lie above a type than may be.
     TooDeep,
+    /// The operator of this visit isn't constant.
+    NotConstant(VisitName),
+}
+
+impl fmt::Display for VisitName {
+    fn fmt<W: fmt::Write>(&self, f: &mut fmt::Formatter<W>) -> fmt::Result {
+        f.write_str("visit_")?;
+        for letter in self.operator.chars() {
+            f.write_char(if letter == '.' { '_' } else { letter })?;
+        }
+        f.write_str(self.suffix)
+    }
 }
 
 /// The name of a kind in a text.
@@ -171,9 +184,10 @@ impl Fault {
             Fault::DataCount => {
                 Wording::Fixed("data count and data section have inconsistent lengths")
             }
-            Fault::NotConstant => {
+            Fault::NotConstant(None) => {
                 Wording::Fixed("constant expression required: non-constant operator")
             }
+            Fault::NotConstant(Some(visit)) => Wording::NotConstant(visit),
             Fault::OwnGlobal => Wording::Fixed(
                 "constant expression required: global.get of locally defined global",
             ),
@@ -196,6 +210,9 @@ impl Wording {
             }
             Wording::UnknownExport(name, index) => {
                 format!(in alloc; "unknown {name} {index}: exported {name} index out of bounds")
+            }
+            Wording::NotConstant(visit) => {
+                format!(in alloc; "constant expression required: non-constant operator: {visit}")
             }
             Wording::ElementMismatch(ty, above) => format!(in alloc;
                 "type mismatch: invalid element type `{ty}` for table type `{above}`"

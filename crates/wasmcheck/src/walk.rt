@@ -13,7 +13,7 @@ use std::alloc::Global;
 use validate_body::OperatorValidator;
 use validate_resources::WasmModuleResources;
 use validate_types::{Error, OutOfMemory, WasmFeatures};
-use validate_visit::{BodyKind, Frame, Op};
+use validate_visit::{BodyKind, Frame};
 
 /// Why a walk ends.
 #[derive(Clone, Copy)]
@@ -74,22 +74,16 @@ pub struct Walk<'w> {
 }
 
 impl Walk<'_> {
-    /// Notes and writes an operator that was accepted, at this offset.
+    /// Notes and writes an operator that was accepted.
     fn note<R: WasmModuleResources>(
         &mut self,
         v: &OperatorValidator,
         resources: &R,
-        op: &Op<'_>,
-        offset: u64,
+        shown: ShownOperator<'_, '_>,
         before: Frame,
     ) -> Result<(), Stop> {
         self.origins
-            .note(v, given_by(resources, op), before, offset)?;
-        let shown = ShownOperator {
-            offset,
-            name: name_at(self.bytes, offset).unwrap_or("?"),
-            op,
-        };
+            .note(v, given_by(resources, shown.op), before, shown.offset)?;
         self.listing.add_operator(shown, v);
         Ok(())
     }
@@ -134,7 +128,12 @@ fn step<R: WasmModuleResources>(
     };
     let op = code.read_operator(lists)?;
     v.check(resources, offset, op)?;
-    walk.note(v, resources, &op, offset, before)
+    let shown = ShownOperator {
+        offset,
+        name: name_at(walk.bytes, offset).unwrap_or("?"),
+        op: &op,
+    };
+    walk.note(v, resources, shown, before)
 }
 
 /// Walks through operators, up to the end of the walk or of the code, or to one that isn't accepted.

@@ -25,5 +25,5 @@ returns c =
       ap (λ o. option_and_then {U = Item Data × List ℕ} (λ (target : Target DataKind × List ℕ). option_and_then {U = Item Data × List ℕ} (λ (written : List ℕ × List ℕ). Some (segment target.0 written)) (sized target.1)) o) t.1
           ∙ ap (λ o. option_and_then {U = Item Data × List ℕ} (λ (written : List ℕ × List ℕ). Some (segment t.0 written)) o) c.in_ok-_bytes.ensures.read,
       ap (λ k. record { kind = k; offset = 0 }) t.2,
-      subst Q (sym (append-nil (placed_at c.args.index t.0.initializers))) t.3,
+      subst Q (sym (append-nil (placed_at c.args.head.index t.0.initializers))) t.3,
     )

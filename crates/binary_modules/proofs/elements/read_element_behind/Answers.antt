@@ -17,7 +17,7 @@ unfolding element_behind
 returns c =
     let t = c.in_ok-kind.ensures in
     let l = c.in_ok-items.ensures in
-    let index = c.args.index in
+    let index = c.args.head.index in
     let Q : List (Place × Expression) → Type 0 = λ x. Adds c.args.initializers.now x c.read_element_items.new.initializers in
     let at = λ (v : Initializer). (let p : Place × Expression = (v.place index, v.expression) in p) in
     let segment = λ (target : Target ElementKind) (listed : Listed × List ℕ). (
@@ -29,7 +29,7 @@ returns c =
       listed.1,
     ) in read) in (
       (segment t.0 (l.0, c.read_element_items.new.reader.left)).0,
-      ap (λ o. option_and_then {U = Item Element × List ℕ} (λ (target : Target ElementKind × List ℕ). option_and_then {U = Item Element × List ℕ} (λ (listed : Listed × List ℕ). Some (segment target.0 listed)) (element_items c.args.flags c.args.canonical target.1)) o) t.1
+      ap (λ o. option_and_then {U = Item Element × List ℕ} (λ (target : Target ElementKind × List ℕ). option_and_then {U = Item Element × List ℕ} (λ (listed : Listed × List ℕ). Some (segment target.0 listed)) (element_items c.args.head.flags c.args.canonical target.1)) o) t.1
           ∙ ap (λ o. option_and_then {U = Item Element × List ℕ} (λ (listed : Listed × List ℕ). Some (segment t.0 listed)) o) l.1,
       ap (λ k. record { kind = k; items = l.0.items; offset = 0 }) t.2
           ∙ ap (λ i. record { kind = c.in_ok-kind.kind; items = i; offset = 0 }) l.2,

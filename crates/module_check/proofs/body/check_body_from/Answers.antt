@@ -8,13 +8,13 @@ use Rattle.module_check.proofs.body.check_body_from.Goals as goal
 pub returns-in_ok-check_operators-in-Function-clause-accepted : goal.returns-in_ok-check_operators-in-Function-clause-accepted
 returns-in_ok-check_operators-in-Function-clause-accepted g c = λ features starts.
     let defined = c.in_ok-define_locals-in-Function.ensures in
-    function_code (g.R.WasmModuleResources.context c.args.resources.now) features c.args.canonical (may_stand c.args.constant) (state c.args.v.now)
+    function_code (g.R.WasmModuleResources.context c.args.context.now.resources.now) features c.args.context.now.types (may_stand c.args.context.now.constant) (state c.args.v.now)
     (state c.define_locals.new.v) c.args.reader.now.left c.define_locals.new.reader.left c.args.kind c.in-Function.field-0
     c.in-Function.is starts defined.defined defined.starting c.in_ok-check_operators-in-Function.ensures.accepted
 
 pub returns-in_ok-check_operators-in-Expression-clause-accepted : goal.returns-in_ok-check_operators-in-Expression-clause-accepted
 returns-in_ok-check_operators-in-Expression-clause-accepted g c = λ features starts.
-    expression_code (g.R.WasmModuleResources.context c.args.resources.now) features c.args.canonical (may_stand c.args.constant) (state c.args.v.now)
+    expression_code (g.R.WasmModuleResources.context c.args.context.now.resources.now) features c.args.context.now.types (may_stand c.args.context.now.constant) (state c.args.v.now)
     c.args.reader.now.left c.args.kind c.in-Expression.field-0 c.in-Expression.is starts c.requires
     c.in_ok-check_operators-in-Expression.ensures.accepted
 
@@ -22,14 +22,14 @@ pub returns-in_err-define_locals-in-Function-clause-refused : goal.returns-in_er
 returns-in_err-define_locals-in-Function-clause-refused g c =
     let p = err_from_is_err_and c.from_residual.result c.from_residual.ensures.1 in
     rw (p.1, p.2) (λ refusal features starts.
-    no_groups (g.R.WasmModuleResources.context c.args.resources.now) features c.args.canonical (may_stand c.args.constant) (state c.args.v.now) (state c.args.v.now)
+    no_groups (g.R.WasmModuleResources.context c.args.context.now.resources.now) features c.args.context.now.types (may_stand c.args.context.now.constant) (state c.args.v.now) (state c.args.v.now)
     c.args.reader.now.left c.args.reader.now.left c.args.kind c.in-Function.field-0 c.in-Function.is starts (c.in_err-define_locals-in-Function.ensures.refused refusal))
 
 pub returns-in_err-check_operators-in-Function-clause-refused : goal.returns-in_err-check_operators-in-Function-clause-refused
 returns-in_err-check_operators-in-Function-clause-refused g c =
     let p = err_from_is_err_and c.from_residual-in_err-check_operators-in-Function.result c.from_residual-in_err-check_operators-in-Function.ensures.1 in
     rw (p.1, p.2) (λ refusal features starts.
-    no_function (g.R.WasmModuleResources.context c.args.resources.now) features c.args.canonical (may_stand c.args.constant) (state c.args.v.now) (state c.define_locals.new.v)
+    no_function (g.R.WasmModuleResources.context c.args.context.now.resources.now) features c.args.context.now.types (may_stand c.args.context.now.constant) (state c.args.v.now) (state c.define_locals.new.v)
     c.args.reader.now.left c.define_locals.new.reader.left c.args.kind c.in-Function.field-0 c.in-Function.is starts c.in_ok-define_locals-in-Function.ensures.defined
     (c.in_err-check_operators-in-Function.ensures.refused refusal))
 
@@ -37,5 +37,5 @@ pub returns-in_err-check_operators-in-Expression-clause-refused : goal.returns-i
 returns-in_err-check_operators-in-Expression-clause-refused g c =
     let p = err_from_is_err_and c.from_residual-in_err-check_operators-in-Expression.result c.from_residual-in_err-check_operators-in-Expression.ensures.1 in
     rw (p.1, p.2) (λ refusal features starts.
-    no_expression (g.R.WasmModuleResources.context c.args.resources.now) features c.args.canonical (may_stand c.args.constant) (state c.args.v.now)
+    no_expression (g.R.WasmModuleResources.context c.args.context.now.resources.now) features c.args.context.now.types (may_stand c.args.context.now.constant) (state c.args.v.now)
     c.args.reader.now.left c.args.kind c.in-Expression.field-0 c.in-Expression.is starts (c.in_err-check_operators-in-Expression.ensures.refused refusal))

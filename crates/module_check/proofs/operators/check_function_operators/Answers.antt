@@ -13,44 +13,44 @@ use Rattle.module_check.proofs.operators.check_function_operators.Goals.{else-lo
 
 pub returns-then-control_stack_height-eq0-clause-accepted : goal.returns-then-control_stack_height-eq0-clause-accepted
 returns-then-control_stack_height-eq0-clause-accepted g c =
-    let md = g.R.WasmModuleResources.context c.args.resources.now in
+    let md = g.R.WasmModuleResources.context c.args.context.now.resources.now in
     let rest = c.is_next_accepted.new.reader.left in
     let turn = c.is_next_accepted.ensures.turn c.if-not-is_next_accepted.false in
-    let more = one_more md c.args.canonical (may_stand None) (state c.args.v.now) c.args.lent.now.left c.loop.reader.left
+    let more = one_more md c.args.context.now.types (may_stand None) (state c.args.v.now) c.args.code.now.left c.loop.reader.left
     (state c.loop.v) (state c.is_next_accepted.new.v) turn.op turn.offset rest
     tt c.loop.invariant.so_far turn.is_read (same_place None turn.op) turn.meets in
     then_ok c.check_end.result
-    (λ ended. whole md c.args.canonical (may_stand None) (state c.args.v.now) c.args.lent.now.left rest
+    (λ ended. whole md c.args.context.now.types (may_stand None) (state c.args.v.now) c.args.code.now.left rest
     (state c.is_next_accepted.new.v) c.control_stack_height.result more ended c.control_stack_height.ensures
-    c.if-control_stack_height-eq0.true (g.met.R.WasmModuleResources.lawful c.args.resources.now))
+    c.if-control_stack_height-eq0.true (g.met.R.WasmModuleResources.lawful c.args.context.now.resources.now))
     c.check_end.ensures.ended
 
 pub returns-then-control_stack_height-eq0-clause-refused : goal.returns-then-control_stack_height-eq0-clause-refused
 returns-then-control_stack_height-eq0-clause-refused g c =
-    let md = g.R.WasmModuleResources.context c.args.resources.now in
+    let md = g.R.WasmModuleResources.context c.args.context.now.resources.now in
     let rest = c.is_next_accepted.new.reader.left in
     let turn = c.is_next_accepted.ensures.turn c.if-not-is_next_accepted.false in
-    let more = one_more md c.args.canonical (may_stand None) (state c.args.v.now) c.args.lent.now.left c.loop.reader.left
+    let more = one_more md c.args.context.now.types (may_stand None) (state c.args.v.now) c.args.code.now.left c.loop.reader.left
     (state c.loop.v) (state c.is_next_accepted.new.v) turn.op turn.offset rest
     tt c.loop.invariant.so_far turn.is_read (same_place None turn.op) turn.meets in
     then_err c.check_end.result IsRefusal
-    (λ left. not_whole md c.args.canonical (may_stand None) (state c.args.v.now) c.args.lent.now.left rest
+    (λ left. not_whole md c.args.context.now.types (may_stand None) (state c.args.v.now) c.args.code.now.left rest
     (state c.is_next_accepted.new.v) c.control_stack_height.result more left c.control_stack_height.ensures
     c.if-control_stack_height-eq0.true)
     c.check_end.ensures.refused
 
 pub returns-clause-refused : goal.returns-clause-refused
 returns-clause-refused g c = λ refusal a.
-    let md = g.R.WasmModuleResources.context c.args.resources.now in
+    let md = g.R.WasmModuleResources.context c.args.context.now.resources.now in
     let here = c.loop.invariant.so_far.behind.same.0 a in
     elim c.loop-test.branch [
       | else-loop-test w ↦
           let ended : length c.loop.reader.left ≡ 0 = omega (arith, c.loop.invariant.few, w.loop-test.false, c.bytes_left-end.ensures) in
-          unclosed md c.args.canonical (may_stand None) (state c.loop.v) c.loop.reader.left c.loop.invariant.so_far.is_open (none_left c.loop.reader.left ended) here
+          unclosed md c.args.context.now.types (may_stand None) (state c.loop.v) c.loop.reader.left c.loop.invariant.so_far.is_open (none_left c.loop.reader.left ended) here
       | then-loop-test+then-not-is_next_accepted w ↦
           let told = w.is_next_accepted.ensures.refused w.if-not-is_next_accepted.true in
           elim c.match-refusal-4.branch [
-            | in-Some s ↦ of_some w.is_next_accepted.new.refusal s.in-Some.error (λ e. IsRefusal e → ¬ AreAcceptedOperators md c.args.canonical (may_stand None) (state c.loop.v) c.loop.reader.left)
+            | in-Some s ↦ of_some w.is_next_accepted.new.refusal s.in-Some.error (λ e. IsRefusal e → ¬ AreAcceptedOperators md c.args.context.now.types (may_stand None) (state c.loop.v) c.loop.reader.left)
                 (sym w.refusal-is ∙ s.in-Some.is) told (subst IsRefusal s.result-is refusal) here
             | in-None s ↦ some_or_none w.is_next_accepted.new.refusal (w.is_next_accepted.ensures.told w.if-not-is_next_accepted.true) (sym w.refusal-is ∙ s.in-None.is)
           ]
@@ -58,15 +58,15 @@ returns-clause-refused g c = λ refusal a.
 
 pub loop-preserved : goal.loop-preserved
 loop-preserved g c =
-    let md = g.R.WasmModuleResources.context c.args.resources.now in
+    let md = g.R.WasmModuleResources.context c.args.context.now.resources.now in
     let turn = c.is_next_accepted.ensures.turn c.if-not-is_next_accepted.false in
     record {
       so_far = record {
-        behind = one_more md c.args.canonical (may_stand None) (state c.args.v.now) c.args.lent.now.left c.loop.reader.left
+        behind = one_more md c.args.context.now.types (may_stand None) (state c.args.v.now) c.args.code.now.left c.loop.reader.left
             (state c.loop.v) (state c.is_next_accepted.new.v) turn.op turn.offset c.is_next_accepted.new.reader.left tt
             c.loop.invariant.so_far turn.is_read (same_place None turn.op) turn.meets;
         is_open = still_open (state c.is_next_accepted.new.v).present c.control_stack_height.result
             c.control_stack_height.ensures c.if-control_stack_height-eq0.false;
       };
-      few = omega (arith, c.loop.invariant.few, operator_shorter c.args.canonical c.loop.reader.left c.is_next_accepted.new.reader.left _ turn.is_read);
+      few = omega (arith, c.loop.invariant.few, operator_shorter c.args.context.now.types c.loop.reader.left c.is_next_accepted.new.reader.left _ turn.is_read);
     }

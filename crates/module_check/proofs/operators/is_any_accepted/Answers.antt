@@ -13,17 +13,17 @@ use Rattle.module_check.proofs.operators.is_any_accepted.Goals as goal
 pub returns-then-is_at_end-clause-refused : goal.returns-then-is_at_end-clause-refused
 returns-then-is_at_end-clause-refused g c = λ is refusal.
     let ended : c.args.reader.now.left ≡ [] = search rules in
-    unclosed (g.R.WasmModuleResources.context c.args.resources.now) c.args.canonical.now (may_stand None) (state c.args.v.now) c.args.reader.now.left c.requires.open_frame ended
+    unclosed (g.R.WasmModuleResources.context c.args.context.now.resources.now) c.args.context.now.types (may_stand None) (state c.args.v.now) c.args.reader.now.left c.requires.open_frame ended
 
 pub returns-in-Err-clause-refused : goal.returns-in-Err-clause-refused
 returns-in-Err-clause-refused g c = λ is refusal.
-    unread (g.R.WasmModuleResources.context c.args.resources.now) c.args.canonical.now (may_stand None) (state c.args.v.now) c.args.reader.now.left c.requires.open_frame (c.in-Err.ensures.refused refusal)
+    unread (g.R.WasmModuleResources.context c.args.context.now.resources.now) c.args.context.now.types (may_stand None) (state c.args.v.now) c.args.reader.now.left c.requires.open_frame (c.in-Err.ensures.refused refusal)
 
 pub returns-clause-refused : goal.returns-clause-refused
 returns-clause-refused g c = λ is.
-    let md = g.R.WasmModuleResources.context c.args.resources.now in
+    let md = g.R.WasmModuleResources.context c.args.context.now.resources.now in
     let op = c.read_operator_into.new.to in
     for_some c.is_accepted.new.refusal (λ e. IsRefusal e → RowFails (step_body md (λ cx. operator cx op) (state c.args.v.now)))
-    (λ e. IsRefusal e → ¬ AreAcceptedOperators md c.args.canonical.now (may_stand None) (state c.args.v.now) c.args.reader.now.left)
-    (λ e fails refusal. unaccepted md c.args.canonical.now (may_stand None) (state c.args.v.now) c.args.reader.now.left c.read_operator_into.new.reader.left op c.requires.open_frame c.in_default.ensures.read (fails refusal))
+    (λ e. IsRefusal e → ¬ AreAcceptedOperators md c.args.context.now.types (may_stand None) (state c.args.v.now) c.args.reader.now.left)
+    (λ e fails refusal. unaccepted md c.args.context.now.types (may_stand None) (state c.args.v.now) c.args.reader.now.left c.read_operator_into.new.reader.left op c.requires.open_frame c.in_default.ensures.read (fails refusal))
     (c.is_accepted.ensures.refused is)

@@ -1,5 +1,5 @@
 -- A common operator passes, or nothing is changed before any operator is read.
-use Rattle.std.proofs.Common.{None, IfSome, sym, subst, ◌∙◌}
+use Rattle.std.proofs.Common.{None, IfSome, sym, subst}
 use Rattle.binary_operators.specs.Unread.{Unread}
 use Rattle.validate_stacks.specs.Attempts.{Stacked}
 use Rattle.validate_stacks.specs.Visits.{MayVisit}
@@ -11,29 +11,28 @@ use Rattle.module_check.specs.Turns.{IsTurn}
 use Rattle.module_check.proofs.Turned.{turn_of, same_of}
 use Rattle.module_check.proofs.operators.is_next_accepted.Goals as goal
 
-pub returns-then-passes_common-clause-turn : goal.returns-then-passes_common-clause-turn
-returns-then-passes_common-clause-turn g c = λ is.
-    turn_of (g.R.WasmModuleResources.context c.args.resources.now) c.passes_common.result c.args.reader.now c.passes_common.new.reader (stacks_of c.args.v.now) (stacks_of c.passes_common.new.v) c.passes_common.ensures c.if-passes_common.true c.args.canonical.now
-
-pub is_read_accepted-is_accepted-requires : goal.is_read_accepted-is_accepted-requires
-is_read_accepted-is_accepted-requires g c =
-    let md = g.R.WasmModuleResources.context c.args.resources.now in
+pub is_lent_accepted-requires : goal.is_lent_accepted-requires
+is_lent_accepted-requires g c =
+    let md = g.R.WasmModuleResources.context c.args.context.now.resources.now in
     let same = same_of md c.passes_common.result c.args.reader.now c.passes_common.new.reader (stacks_of c.args.v.now) (stacks_of c.passes_common.new.v) c.passes_common.ensures c.if-passes_common.false in
     subst (MayVisit md) (sym same.1) c.requires
 
-pub returns-clause-turn : goal.returns-clause-turn
-returns-clause-turn g c = λ accepted.
-    let md = g.R.WasmModuleResources.context c.args.resources.now in
-    let next = c.is_read_accepted-is_accepted in
-    let same = same_of md c.passes_common.result c.args.reader.now c.passes_common.new.reader (stacks_of c.args.v.now) (stacks_of c.passes_common.new.v) c.passes_common.ensures c.if-passes_common.false in
-    let turn = subst (λ (s : Stacked). IsTurn md c.args.canonical.now c.duplicate.result.left next.new.reader.left s.body (state next.new.v)) same.1 (next.ensures.turn accepted) in
-    let begun = subst (λ (r : Unread). IsTurn md c.args.canonical.now r.left next.new.reader.left (state c.args.v.now) (state next.new.v)) (c.duplicate.ensures ∙ same.0) turn in
-    subst (λ (r : Unread). IsTurn md c.args.canonical.now c.args.reader.now.left r.left (state c.args.v.now) (state next.new.v)) (sym c.duplicate-2.ensures) begun
+pub returns-then-passes_common-clause-turn : goal.returns-then-passes_common-clause-turn
+returns-then-passes_common-clause-turn g c = λ is.
+    turn_of (g.R.WasmModuleResources.context c.args.context.now.resources.now) c.passes_common.result c.args.reader.now c.passes_common.new.reader (stacks_of c.args.v.now) (stacks_of c.passes_common.new.v) c.passes_common.ensures c.if-passes_common.true c.args.context.now.types
 
-pub returns-clause-refused : goal.returns-clause-refused
-returns-clause-refused g c = λ is.
-    let md = g.R.WasmModuleResources.context c.args.resources.now in
+pub returns-else-passes_common-clause-turn : goal.returns-else-passes_common-clause-turn
+returns-else-passes_common-clause-turn g c = λ accepted.
+    let md = g.R.WasmModuleResources.context c.args.context.now.resources.now in
+    let next = c.is_lent_accepted in
     let same = same_of md c.passes_common.result c.args.reader.now c.passes_common.new.reader (stacks_of c.args.v.now) (stacks_of c.passes_common.new.v) c.passes_common.ensures c.if-passes_common.false in
-    let refusal = c.is_read_accepted-is_accepted.new.refusal in
-    let there = subst (λ (s : Stacked). IfSome refusal (λ e. IsRefusal e → ¬ AreAcceptedOperators md c.args.canonical.now (may_stand None) s.body c.duplicate.result.left)) same.1 (c.is_read_accepted-is_accepted.ensures.refused is) in
-    subst (λ (r : Unread). IfSome refusal (λ e. IsRefusal e → ¬ AreAcceptedOperators md c.args.canonical.now (may_stand None) (state c.args.v.now) r.left)) (c.duplicate.ensures ∙ same.0) there
+    let turn = subst (λ (s : Stacked). IsTurn md c.args.context.now.types c.passes_common.new.reader.left next.new.reader.left s.body (state next.new.v)) same.1 (next.ensures.turn accepted) in
+    subst (λ (r : Unread). IsTurn md c.args.context.now.types r.left next.new.reader.left (state c.args.v.now) (state next.new.v)) same.0 turn
+
+pub returns-else-passes_common-clause-refused : goal.returns-else-passes_common-clause-refused
+returns-else-passes_common-clause-refused g c = λ is.
+    let md = g.R.WasmModuleResources.context c.args.context.now.resources.now in
+    let same = same_of md c.passes_common.result c.args.reader.now c.passes_common.new.reader (stacks_of c.args.v.now) (stacks_of c.passes_common.new.v) c.passes_common.ensures c.if-passes_common.false in
+    let refusal = c.is_lent_accepted.new.refusal in
+    let there = subst (λ (s : Stacked). IfSome refusal (λ e. IsRefusal e → ¬ AreAcceptedOperators md c.args.context.now.types (may_stand None) s.body c.passes_common.new.reader.left)) same.1 (c.is_lent_accepted.ensures.refused is) in
+    subst (λ (r : Unread). IfSome refusal (λ e. IsRefusal e → ¬ AreAcceptedOperators md c.args.context.now.types (may_stand None) (state c.args.v.now) r.left)) same.0 there

@@ -18,6 +18,11 @@ loop-place-preserved c = record {
             let within : c.loop-place.place < item_count c.args.module.now = omega (arith, c.loop-place-test.true, c.item_count-place-end.ensures) in
             c.check_item-checked.ensures.unaccepted within this.0 this.1)
       ];
+  counted = λ enough none.
+      let noted = c.note.ensures.counted enough in
+      let so_far = c.loop-place.invariant.counted noted.0 none in
+      let one_more = noted.1 (omega (arith, so_far, c.loop-place-test.true)) in
+      omega (arith, so_far, one_more);
 }
 
 pub returns-clause-accepted : goal.returns-clause-accepted

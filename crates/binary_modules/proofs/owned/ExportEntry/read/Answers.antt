@@ -10,5 +10,5 @@ returns c = (
   alone (record c.in_ok-export.export { offset = 0 }),
   ap alone_item c.in_ok-export.ensures.read,
   refl,
-  adds_none c.args._initializers.now,
+  adds_none c.args.initializers.now,
 )

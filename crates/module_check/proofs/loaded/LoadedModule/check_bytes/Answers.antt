@@ -9,11 +9,11 @@ use Rattle.module_check.proofs.loaded.LoadedModule.check_bytes.Goals as goal
 pub returns-clause-accepted : goal.returns-clause-accepted
 returns-clause-accepted c = λ accepted.
     let code = c.check_body.ensures.accepted accepted in
-    (c.types-types.result, c.types-types.ensures, rw (c.operator_features.ensures, c.duplicate-reader.ensures) at code)
+    (c.types-types.result, c.types-types.ensures, rw (c.operator_features-features.ensures, c.duplicate-reader.ensures) at code)
 
 pub returns-clause-refused : goal.returns-clause-refused
 returns-clause-refused c = λ refused memory types are a.
     let none = c.check_body.ensures.refused refused memory in
-    let there = rw (c.operator_features.ensures, c.duplicate-reader.ensures) at none in
+    let there = rw (c.operator_features-features.ensures, c.duplicate-reader.ensures) at none in
     there (wherever (declared c.args.self.now) (operator_features c.args.self.now.features) c.args.kind (may_stand c.args.constant) c.args.bytes.now.left types c.types-types.result
     (are.canonical ∙ sym c.types-types.ensures.canonical) (are.behind ∙ sym c.types-types.ensures.behind) a)

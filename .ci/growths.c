@@ -2,7 +2,8 @@
    requests for memory and its writes. The test that is named to the program is run once; at each of its requests a child
    goes on in its place, in which this request is refused:
 
-   - the test ends with an error, and no expectation of it fails;
+   - the test ends its process since memory is wanting: by an abort, as a failed expectation does, but what it says last
+     is that, and where;
    - before it ends no other request is made. So want of memory is answered for this request and there, nothing is tried
      again, and what the test looks at behind it takes no memory.
 
@@ -11,9 +12,11 @@
 
    A crash, or a minute without an end, is wrong. Prints a line for the test: `NAME: N requests, M wrong`. */
 #include "interposed.h"
+#include <sys/prctl.h>
 
-/* What the program says of a test that ends with an error, and what the harness says of a child. */
-static const char *by_result = "its result gives status";
+/* What a test says last for which memory was wanting, up to the place in expectations.rt where it stops; and what the
+   harness says of a child. */
+static const char wanting[] = "memory is wanting\n\ntest stopped at src/expectations.rt:";
 static const char asked_again[] = "a request behind the refused one\n";
 static const char asked_nothing[] = "a request where there is no memory\n";
 
@@ -29,12 +32,18 @@ ssize_t write(int fd, const void *from, size_t size) {
     return original_write(fd, from, size);
 }
 
-/* Whether what a child said of its test has these words. */
-static int has_said(const char *words) {
+/* Whether what a child said last is that memory is wanting, in lines of its own. */
+static int has_said_wanting(void) {
     char text[4096];
-    ssize_t size = pread(said, text, sizeof text - 1, 0);
+    off_t all = lseek(said, 0, SEEK_END), room = sizeof text - 1;
+    ssize_t size = pread(said, text, room, all > room ? all - room : 0);
     text[size < 0 ? 0 : size] = 0;
-    return strstr(text, words) != NULL;
+    const char *last = NULL;
+    for (const char *at = text; (at = strstr(at, wanting)); at++) last = at;
+    if (!last || (last > text && last[-1] != '\n')) return 0;
+    const char *place = last + sizeof wanting - 1;
+    size_t length = strspn(place, "0123456789:");
+    return length > 0 && strcmp(place + length, "\n") == 0;
 }
 
 /* Ends a child that is wrong, and says why. */
@@ -52,6 +61,7 @@ static int go_on_refused(void) {
     if (child < 0) _exit(2);
     if (child == 0) {
         is_child = is_wanting = 1;
+        prctl(PR_SET_DUMPABLE, 0);
         alarm(60);
         dup2(said, 1);
         dup2(said, 2);
@@ -59,7 +69,7 @@ static int go_on_refused(void) {
     }
     int status;
     waitpid(child, &status, 0);
-    if (WIFEXITED(status) && WEXITSTATUS(status) != 0 && WEXITSTATUS(status) != 3 && has_said(by_result)) return 0;
+    if (WIFSIGNALED(status) && WTERMSIG(status) == SIGABRT && has_said_wanting()) return 0;
     if (++wrong > 3) return 0;
     is_running = 0;
     char text[1024];

@@ -8,10 +8,10 @@ ghost use Rattle.validate_stacks.specs.State.{IsStarting};
 ghost use Rattle.validate_stacks.specs.Visits.{MayVisit};
 ghost use Rattle.wasmparser_validate.specs.Start.{state, stacks_of};
 
-use crate::expectations::{ample, expect, expect_error, expect_same};
+use crate::expectations::{ample, expect, expect_error, expect_memory, expect_same, wants_memory};
+use crate::modules::lists_of;
 use crate::snapshot::Snapshot;
-use crate::visits::{BLOCK, I32_CONST, UNREACHABLE, begun_in, one_memory, visit_each};
-use std::alloc::AllocError;
+use crate::visits::{BLOCK, I32_CONST, UNREACHABLE, begun_in, visit_each};
 use std::mem;
 use std::process::Abort;
 use wasmparser_validate::operators::{
@@ -99,27 +99,30 @@ fn pop_run<R: WasmModuleResources>(
     visitor.pop_run(ValType::I32, count, pops)
 }
 
-/// What a run comes to, unless memory is wanting.
+/// What a run comes to, and whether memory was wanting.
 fn expect_run<R: WasmModuleResources>(
     rt: &impl Abort,
     v: &mut OperatorValidator,
     lists: &R,
     run: &Run,
-) -> Result<(), AllocError>
+) -> bool
     requires { MayVisit (R.context lists.now) (stacks_of v.old) }
     ensures kept { IsKept (state v.old) (state v.new) }
 {
     let mut pops = Pops::new();
     let answer = pop_run(v, lists, run.count, &mut pops);
+    if wants_memory(&answer) {
+        return true;
+    }
     match run.left {
         Some(left) => {
-            ample(rt, answer)?;
+            ample(rt, answer);
             expect_same(rt, v.operand_stack_height(), left);
         }
-        None => expect_error(rt, answer, NOTHING, 7)?,
+        None => expect_error(rt, answer, NOTHING, 7),
     }
     expect_same(rt, pops.count(), run.tried);
-    Ok(())
+    false
 }
 
 /// The same in an attempt, which is taken back: then all is as it was before.
@@ -128,17 +131,17 @@ fn expect_undone<R: WasmModuleResources>(
     v: &mut OperatorValidator,
     lists: &R,
     run: &Run,
-) -> Result<(), AllocError>
+)
     requires idle { (state v.old).undone ≡ None }
     requires visit { MayVisit (R.context lists.now) (stacks_of v.old) }
     ensures same { state v.new ≡ state v.old }
 {
-    let before = Snapshot::of(rt.alloc(), v)?;
+    let before = Snapshot::of(rt, v);
     v.begin_try_op();
-    let answer = expect_run(rt, v, lists, run);
+    let is_wanting = expect_run(rt, v, lists, run);
     v.rollback();
     expect(rt, before.is_of(v));
-    answer
+    expect_memory(rt, is_wanting);
 }
 
 /// A run behind its operators: in an attempt that is taken back, and then for good.
@@ -147,32 +150,28 @@ fn expect_both<R: WasmModuleResources>(
     v: &mut OperatorValidator,
     lists: &R,
     run: &Run,
-) -> Result<(), AllocError>
+)
     requires { IsStarting (R.context lists.now) (state v.old) }
 {
-    visit_each(rt, v, lists, run.before)?;
-    expect_undone(rt, v, lists, run)?;
-    expect_run(rt, v, lists, run)
+    visit_each(rt, v, lists, run.before);
+    expect_undone(rt, v, lists, run);
+    let is_wanting = expect_run(rt, v, lists, run);
+    expect_memory(rt, is_wanting);
 }
 
 /// Each run in a new body, in the buffers of the one before it.
-pub fn expect_runs(
-    rt: &(impl Abort + AllocGlobal),
-    used: &mut OperatorValidatorAllocations,
-) -> Result<(), AllocError> {
-    let lists = ample(rt, one_memory(rt.alloc()))?;
+pub fn expect_runs(rt: &(impl Abort + AllocGlobal), used: &mut OperatorValidatorAllocations) {
+    let lists = lists_of(rt, "memory");
     for run in RUNS {
         let allocs = mem::replace(used, OperatorValidatorAllocations::new(rt.alloc()));
-        let mut v = ample(rt, begun_in(&lists, allocs))?;
-        let answer = expect_both(rt, &mut v, &lists, run);
+        let mut v = begun_in(rt, &lists, allocs);
+        expect_both(rt, &mut v, &lists, run);
         *used = v.into_allocations();
-        answer?;
     }
-    Ok(())
 }
 
 #[test]
-fn runs_of_pops(rt: HostRuntime) -> Result<(), AllocError> {
+fn runs_of_pops(rt: HostRuntime) {
     let mut used = OperatorValidatorAllocations::new(rt.alloc());
-    expect_runs(&rt, &mut used)
+    expect_runs(&rt, &mut used);
 }

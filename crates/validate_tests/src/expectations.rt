@@ -1,15 +1,19 @@
 //! What a test expects. A call of these is proved at once, where a branch for what isn't met, and the text
 //! of it, cost seconds each.
 //!
-//! A test ends with an error where memory is wanting, and in no other case: so `.ci/growths` can ask for it.
+//! Where memory is wanting a test ends its process, in words of its own (`WANTING`): so `.ci/growths` can ask for these,
+//! and no function has a way out of which all that is dropped there would be proved.
 
-ghost use Rattle.std.specs.Prelude.{◌≡◌, true, Ok, IfOk};
+ghost use Rattle.std.specs.Prelude.{◌≡◌, true, Ok};
 
 use script_reader::ScriptError;
-use std::alloc::AllocError;
+use std::alloc::{AllocError, AllocFailed};
 use std::fmt::Debug;
 use std::process::Abort;
-use wasmparser_validate::types::{Error, Refusal};
+use wasmparser_validate::types::{Error, OutOfMemory};
+
+/// The last words of a test for which memory was wanting (`.ci/growths.c`).
+const WANTING: &str = "memory is wanting";
 
 /// It is so.
 pub fn expect(rt: &impl Abort, is_so: bool)
@@ -28,72 +32,87 @@ pub fn expect_text(rt: &impl Abort, found: &str, expected: &str, of: &str) {
     assert_eq!(rt; found, expected, "{of}");
 }
 
-/// What was answered, unless memory was wanting: nothing else is refused.
-pub fn ample<T: Drop>(rt: &impl Abort, answer: Result<T, Error>) -> Result<T, AllocError>
-    ensures { IfOk result (λ value. answer ≡ Ok value) }
+/// Ends the test if memory was wanting.
+pub fn expect_memory(rt: &impl Abort, is_wanting: bool) {
+    if is_wanting {
+        rt.panic(WANTING)
+    }
+}
+
+/// Whether it is refused since memory was wanting.
+pub fn wants_memory(answer: &Result<(), Error>) -> bool {
+    match answer {
+        Ok(()) => false,
+        Err(refusal) => refusal.is_out_of_memory(),
+    }
+}
+
+/// An error that may be want of memory.
+pub trait Failure {
+    /// Its words: `out of memory` for want of memory.
+    fn words(&self) -> &str;
+}
+
+impl Failure for Error {
+    fn words(&self) -> &str {
+        self.message()
+    }
+}
+
+impl Failure for ScriptError {
+    fn words(&self) -> &str {
+        match self {
+            ScriptError::OutOfMemory => "out of memory",
+            ScriptError::BadLine(_) => "a bad line",
+        }
+    }
+}
+
+impl Failure for OutOfMemory {
+    fn words(&self) -> &str {
+        "out of memory"
+    }
+}
+
+impl Failure for AllocError {
+    fn words(&self) -> &str {
+        "out of memory"
+    }
+}
+
+impl<T> Failure for AllocFailed<T> {
+    fn words(&self) -> &str {
+        "out of memory"
+    }
+}
+
+/// What was answered: nothing is refused. The test ends if memory was wanting.
+pub fn ample<T, E: Failure>(rt: &impl Abort, answer: Result<T, E>) -> T
+    ensures { answer ≡ Ok result }
 {
     match answer {
-        Ok(value) => Ok(value),
-        Err(refusal) => {
-            expect_text(rt, refusal.message(), "out of memory", "what is accepted");
-            Err(AllocError)
-        }
-    }
-}
-
-/// What was read, unless memory was wanting: no line is bad.
-pub fn read<T: Drop>(rt: &impl Abort, answer: Result<T, ScriptError>) -> Result<T, AllocError> {
-    match answer {
-        Ok(value) => Ok(value),
+        Ok(value) => value,
         Err(failure) => {
-            expect(rt, matches!(failure, ScriptError::OutOfMemory));
-            Err(AllocError)
+            expect_text(rt, failure.words(), "out of memory", "what is accepted");
+            rt.panic(WANTING)
         }
     }
 }
 
-/// The refusal is in these words, at this offset.
-fn expect_told(rt: &impl Abort, refusal: &Error, text: &str, offset: u64) {
-    expect_text(rt, refusal.message(), text, text);
-    expect_same(rt, refusal.offset(), offset);
-}
-
-/// It is refused in these words, at this offset, unless memory was wanting.
-pub fn expect_error<T: Drop>(
-    rt: &impl Abort,
-    answer: Result<T, Error>,
-    text: &str,
-    offset: u64,
-) -> Result<(), AllocError> {
-    let refusal = answer.err();
-    expect(rt, refusal.is_some());
-    let Some(refusal) = refusal else {
-        return Ok(());
-    };
-    if refusal.is_out_of_memory() {
-        return Err(AllocError);
-    }
-    expect_told(rt, &refusal, text, offset);
-    Ok(())
-}
-
-/// It is refused, for this reason and in these words, unless memory was wanting.
-pub fn expect_refused(
-    rt: &impl Abort,
-    answer: Result<(), Error>,
-    reason: Option<Refusal>,
-    text: &str,
-) -> Result<(), AllocError> {
-    match &answer {
-        Ok(()) => {
-            expect(rt, false);
-            Ok(())
-        }
-        Err(refusal) if refusal.is_out_of_memory() => Err(AllocError),
+/// The refusal, in these words. The test ends if memory was wanting.
+pub fn refused<T>(rt: &impl Abort, answer: Result<T, Error>, words: &str) -> Error {
+    match answer {
+        Ok(_) => rt.panic(format_args!("accepted, and not refused: {words}")),
         Err(refusal) => {
-            expect_text(rt, refusal.message(), text, text);
-            expect_same(rt, refusal.reason(), reason);
-            Ok(())
+            expect_memory(rt, refusal.is_out_of_memory());
+            expect_text(rt, refusal.message(), words, words);
+            refusal
         }
     }
+}
+
+/// It is refused in these words, at this offset. The test ends if memory was wanting.
+pub fn expect_error<T>(rt: &impl Abort, answer: Result<T, Error>, words: &str, offset: u64) {
+    let refusal = refused(rt, answer, words);
+    expect_same(rt, refusal.offset(), offset);
 }

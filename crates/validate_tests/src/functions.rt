@@ -1,19 +1,18 @@
 //! Function validators: one of which an attempt was refused, which leaves no trace; one that has failed; and what can be
 //! asked of one.
 
-ghost use Rattle.std.specs.Prelude.{◌≡◌, [], false, IfOk};
+ghost use Rattle.std.specs.Prelude.{◌≡◌, [], false};
 ghost use Rattle.validate_stacks.specs.State.{IsStarting};
 ghost use Rattle.wasmparser_validate.specs.Start.{state};
 
 use crate::expectations::{ample, expect, expect_error};
-use crate::modules::lists_of;
+use crate::modules::{lists_of, new_function};
 use crate::visits::{I32_CONST, I64_CONST};
-use std::alloc::AllocError;
 use std::process::Abort;
 use wasmparser_validate::func::{FuncValidator, operands_before};
-use wasmparser_validate::operators::{OperatorValidator, OperatorValidatorAllocations};
+use wasmparser_validate::operators::OperatorValidator;
 use wasmparser_validate::resources::{ModuleLists, WasmModuleResources};
-use wasmparser_validate::types::{Error, Flags, ValType, WasmFeatures};
+use wasmparser_validate::types::{Error, ValType};
 use wasmparser_validate::visit::{
     ControlOp, FrameKind, IntegerBinaryOp, IntegerType, NumericOp, Op, all_have_module_immediates,
     is_well_ordered,
@@ -36,16 +35,14 @@ const OTHER: &str = "type mismatch: expected i32, found i64";
 
 const FAILED: &str = "function validator has failed";
 
-/// A function that takes nothing and gives nothing.
+/// A function of type 0.
 fn function_of<'a, 'lists>(
     rt: &(impl Abort + AllocGlobal),
     lists: &'lists ModuleLists,
-) -> Result<FuncValidator<'a, 'lists, ModuleLists>, AllocError>
-    ensures { IfOk result (λ f. (f.accepted ≡ []) × (f.failed ≡ false)) }
+) -> FuncValidator<'a, 'lists, ModuleLists>
+    ensures { (result.accepted ≡ []) × (result.failed ≡ false) }
 {
-    let allocs = OperatorValidatorAllocations::new(rt.alloc());
-    let v = OperatorValidator::new_func(0, 0, &WasmFeatures::all(), lists, allocs);
-    Ok(FuncValidator::new(rt.alloc(), ample(rt, v)?, lists))
+    FuncValidator::new(rt.alloc(), new_function(rt, lists), lists)
 }
 
 /// Visits an operator, where a frame is open.
@@ -73,11 +70,10 @@ fn accept<'a, R: WasmModuleResources>(
     rt: &impl Abort,
     function: &mut FuncValidator<'a, '_, R>,
     ops: &[Op<'a>],
-) -> Result<(), AllocError> {
+) {
     for op in ops {
-        ample(rt, visit(rt, function, *op))?;
+        ample(rt, visit(rt, function, *op));
     }
-    Ok(())
 }
 
 /// What can be asked of a function whose operands are an i64 and an i32.
@@ -102,83 +98,73 @@ fn expect_two_operands<R: WasmModuleResources>(
 }
 
 /// The types of all operands are an i64 and, on top, an i32.
-fn expect_types<R: WasmModuleResources>(
-    rt: &impl Abort,
-    function: &FuncValidator<'_, '_, R>,
-) -> Result<(), AllocError> {
-    let Ok(types) = function.operand_types() else {
-        return Err(AllocError);
-    };
+fn expect_types<R: WasmModuleResources>(rt: &impl Abort, function: &FuncValidator<'_, '_, R>) {
+    let types = ample(rt, function.operand_types());
     let expected = [Some(ValType::I64), Some(ValType::I32)];
     expect(rt, types.as_slice() == expected.as_slice());
-    Ok(())
 }
 
 /// The attempt of an addition is refused, and leaves no trace: the two constants are dropped, and the function ends.
 fn expect_five_accepted<R: WasmModuleResources>(
     rt: &impl Abort,
     function: &mut FuncValidator<'static, '_, R>,
-) -> Result<(), AllocError> {
-    accept(rt, function, &[I64_CONST, I32_CONST])?;
-    expect_error(rt, attempt(rt, function, I32_ADD), OTHER, 9)?;
+) {
+    accept(rt, function, &[I64_CONST, I32_CONST]);
+    expect_error(rt, attempt(rt, function, I32_ADD), OTHER, 9);
     expect_two_operands(rt, function);
-    expect_types(rt, function)?;
-    accept(rt, function, &[DROP, DROP, END])?;
+    expect_types(rt, function);
+    accept(rt, function, &[DROP, DROP, END]);
     expect(
         rt,
         function.accepted().len() == 5 && function.current_frame().is_none(),
     );
-    ample(rt, function.finish(9))
+    ample(rt, function.finish(9));
 }
 
 #[test]
-fn an_attempt_that_is_refused_leaves_no_trace(rt: HostRuntime) -> Result<(), AllocError> {
-    let lists = lists_of(&rt, "type func ->")?;
-    let mut function = function_of(&rt, &lists)?;
-    expect_five_accepted(&rt, &mut function)
+fn an_attempt_that_is_refused_leaves_no_trace(rt: HostRuntime) {
+    let lists = lists_of(&rt, "type func ->");
+    let mut function = function_of(&rt, &lists);
+    expect_five_accepted(&rt, &mut function);
 }
 
 /// Has a frame open at first; and has failed behind a refused visit.
 fn expect_refusals<R: WasmModuleResources>(
     rt: &impl Abort,
     function: &mut FuncValidator<'static, '_, R>,
-) -> Result<(), AllocError> {
-    expect_error(rt, function.finish(9), OPEN, 9)?;
-    expect_error(rt, visit(rt, function, I32_ADD), NOTHING, 9)?;
+) {
+    expect_error(rt, function.finish(9), OPEN, 9);
+    expect_error(rt, visit(rt, function, I32_ADD), NOTHING, 9);
     expect(rt, function.is_failed());
-    expect_error(rt, visit(rt, function, I32_CONST), FAILED, 9)?;
-    expect_error(rt, attempt(rt, function, I32_CONST), FAILED, 9)?;
+    expect_error(rt, visit(rt, function, I32_CONST), FAILED, 9);
+    expect_error(rt, attempt(rt, function, I32_CONST), FAILED, 9);
     expect(rt, function.accepted().is_empty());
-    expect_error(rt, function.finish(9), FAILED, 9)
+    expect_error(rt, function.finish(9), FAILED, 9);
 }
 
 #[test]
-fn a_function_that_has_failed_refuses_whatever_comes(rt: HostRuntime) -> Result<(), AllocError> {
-    let lists = lists_of(&rt, "type func ->")?;
-    let mut function = function_of(&rt, &lists)?;
-    expect_refusals(&rt, &mut function)
+fn a_function_that_has_failed_refuses_whatever_comes(rt: HostRuntime) {
+    let lists = lists_of(&rt, "type func ->");
+    let mut function = function_of(&rt, &lists);
+    expect_refusals(&rt, &mut function);
 }
 
 /// It takes three locals, and has none behind them.
-fn expect_locals<R: WasmModuleResources>(
-    rt: &impl Abort,
-    function: &mut FuncValidator<'_, '_, R>,
-) -> Result<(), AllocError>
+fn expect_locals<R: WasmModuleResources>(rt: &impl Abort, function: &mut FuncValidator<'_, '_, R>)
     requires first { function.old.accepted ≡ [] }
     requires none_failed { function.old.failed ≡ false }
 {
-    ample(rt, function.define_locals(1, 3, ValType::I64))?;
+    ample(rt, function.define_locals(1, 3, ValType::I64));
     expect(rt, function.len_locals() == 3);
     expect(rt, function.get_local_type(2) == Some(ValType::I64));
     expect(rt, function.get_local_type(3).is_none());
-    Ok(())
 }
 
 #[test]
-fn locals_of_a_function(rt: HostRuntime) -> Result<(), AllocError> {
-    let lists = lists_of(&rt, "type func ->")?;
-    let mut function = function_of(&rt, &lists)?;
-    expect_locals(&rt, &mut function)
+fn locals_of_a_function(rt: HostRuntime) {
+    let lists = lists_of(&rt, "type func ->");
+    let mut function = function_of(&rt, &lists);
+    expect_locals(&rt, &mut function);
 }
 
 /// The operators of a sum of the parameter and a constant.
@@ -196,48 +182,29 @@ const BEFORE: &[(usize, &[Option<ValType>])] = &[
     (4, &[Some(ValType::I32)]),
 ];
 
-/// The types of the operands before an operator.
-fn types_before<R: WasmModuleResources>(
+/// These are the types of the operands before an operator.
+fn expect_before<R: WasmModuleResources>(
     rt: &(impl Abort + AllocGlobal),
     v: &mut OperatorValidator,
     lists: &R,
     place: usize,
-) -> Result<Vec<Option<ValType>>, AllocError>
+    expected: &[Option<ValType>],
+)
     requires { IsStarting (R.context lists.now) (state v.old) }
 {
     expect(rt, is_well_ordered(SUM) && place <= SUM.len());
     expect(rt, all_have_module_immediates(SUM));
     match operands_before(rt.alloc(), v, SUM, lists, place) {
-        Ok(types) => Ok(types),
+        Ok(types) => expect(rt, types.as_slice() == expected),
         Err((_, refusal)) => ample(rt, Err(refusal)),
     }
 }
 
-/// The same, in a function that begins.
-fn types_in_new<R: WasmModuleResources>(
-    rt: &(impl Abort + AllocGlobal),
-    lists: &R,
-    place: usize,
-) -> Result<Vec<Option<ValType>>, AllocError> {
-    let allocs = OperatorValidatorAllocations::new(rt.alloc());
-    let begun = OperatorValidator::new_func(0, 2, &WasmFeatures::all(), lists, allocs);
-    types_before(rt, &mut ample(rt, begun)?, lists, place)
-}
-
-/// These are the types of the operands before some operators.
-fn expect_before<R: WasmModuleResources>(
-    rt: &(impl Abort + AllocGlobal),
-    lists: &R,
-) -> Result<(), AllocError> {
-    for (place, expected) in BEFORE {
-        let types = types_in_new(rt, lists, *place)?;
-        expect(rt, types.as_slice() == *expected);
-    }
-    Ok(())
-}
-
 #[test]
-fn types_between_operators(rt: HostRuntime) -> Result<(), AllocError> {
-    let lists = lists_of(&rt, "type func i32 -> i32")?;
-    expect_before(&rt, &lists)
+fn types_between_operators(rt: HostRuntime) {
+    let lists = lists_of(&rt, "type func i32 -> i32");
+    for (place, expected) in BEFORE {
+        let mut v = new_function(&rt, &lists);
+        expect_before(&rt, &mut v, &lists, *place, expected);
+    }
 }

@@ -1,7 +1,7 @@
 //! Declared locals: what they answer, and how their types are held.
 
-use crate::expectations::{expect_same, expect_text};
-use std::alloc::AllocError;
+use crate::expectations::{ample, expect_same, expect_text};
+use crate::written::Written;
 use std::process::Abort;
 use wasmparser_validate::locals::Locals;
 use wasmparser_validate::types::ValType;
@@ -75,80 +75,65 @@ const ROWS: &[Row] = &[
 ];
 
 /// Declares the locals of a row.
-fn declare(
-    rt: &impl Abort,
-    locals: &mut Locals,
-    declared: &[(u32, ValType, bool)],
-) -> Result<(), AllocError> {
+fn declare(rt: &impl Abort, locals: &mut Locals, declared: &[(u32, ValType, bool)]) {
     for (count, ty, is_within) in declared {
-        match locals.define(*count, *ty) {
-            Ok(is_declared) => expect_same(rt, is_declared, *is_within),
-            Err(_) => return Err(AllocError),
-        }
+        let is_declared = ample(rt, locals.define(*count, *ty));
+        expect_same(rt, is_declared, *is_within);
     }
-    Ok(())
 }
 
 /// Adds so many types, parted by commas.
-fn add_types(text: &mut String, count: u32, name: &str) -> Result<(), AllocError> {
+fn add_types(text: &mut Written, count: u32, name: &str) {
     for _ in 0..count {
-        write!(text, "{name}, ")?;
+        text.add(format_args!("{name}, "));
     }
-    Ok(())
 }
 
 /// How the types of a row are held, as far as the text of them goes.
-fn expect_held(
-    rt: &(impl Abort + AllocGlobal),
-    locals: &Locals,
-    row: &Row,
-) -> Result<(), AllocError> {
-    let mut first = String::new(rt.alloc());
+fn expect_held(rt: &(impl Abort + AllocGlobal), locals: &Locals, row: &Row) {
+    let mut first = Written::new(rt.alloc());
     for (count, name) in row.first {
-        add_types(&mut first, *count, name)?;
+        add_types(&mut first, *count, name);
     }
-    let first = first.trim_end_matches(", ");
-    let expected = format!(in rt.alloc(); "first: [{first}], uncached: {} }}", row.runs)?;
-    let printed = format!(in rt.alloc(); "{locals:?}")?;
+    first.expect_memory(rt);
+    let first = first.as_str().trim_end_matches(", ");
+    let expected = format!(in rt.alloc(); "first: [{first}], uncached: {} }}", row.runs);
+    let expected = ample(rt, expected);
+    let printed = ample(rt, format!(in rt.alloc(); "{locals:?}"));
     let (_, held) = printed.split_once("], ").unwrap_or(("", &printed));
     expect_text(rt, held, &expected, row.runs);
-    Ok(())
 }
 
 /// What the locals of a row answer, and how they are held.
-fn expect_row(rt: &(impl Abort + AllocGlobal), row: &Row) -> Result<(), AllocError> {
+fn expect_row(rt: &(impl Abort + AllocGlobal), row: &Row) {
     let mut locals = Locals::new(rt.alloc());
-    declare(rt, &mut locals, row.declared)?;
+    declare(rt, &mut locals, row.declared);
     for (index, ty) in row.types {
         expect_same(rt, locals.get(*index), *ty);
         expect_same(rt, locals.find(*index), ty.as_ref());
     }
     expect_same(rt, locals.len_locals(), row.count);
-    expect_held(rt, &locals, row)
+    expect_held(rt, &locals, row);
 }
 
 /// The first fifty are held plainly, and behind them equal types are one run, however many. No clause says how they are
 /// held.
 #[test]
-fn further_locals_are_held_in_runs(rt: HostRuntime) -> Result<(), AllocError> {
+fn further_locals_are_held_in_runs(rt: HostRuntime) {
     for row in ROWS {
-        expect_row(&rt, row)?;
+        expect_row(&rt, row);
     }
-    Ok(())
 }
 
 /// Parameters are locals of which each has its own type; more than the limit isn't declared.
 #[test]
-fn parameters_are_the_first_locals(rt: HostRuntime) -> Result<(), AllocError> {
+fn parameters_are_the_first_locals(rt: HostRuntime) {
     let mut locals = Locals::new(rt.alloc());
-    match locals.define_params(&[ValType::F32, ValType::V128]) {
-        Ok(is_declared) => expect_same(&rt, is_declared, true),
-        Err(_) => return Err(AllocError),
-    }
+    let is_declared = ample(&rt, locals.define_params(&[ValType::F32, ValType::V128]));
+    expect_same(&rt, is_declared, true);
     expect_same(&rt, locals.get(1), Some(ValType::V128));
     expect_same(&rt, locals.may_define(49_998), true);
     expect_same(&rt, locals.may_define(49_999), false);
     locals.clear();
     expect_same(&rt, locals.len_locals(), 0);
-    Ok(())
 }

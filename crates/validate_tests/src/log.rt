@@ -3,7 +3,7 @@
 ghost use Rattle.std.specs.Prelude.{◌≡◌, MatchResult};
 ghost use Rattle.validate_transaction.specs.Recorded.{with_push};
 
-use crate::expectations::{expect, expect_same};
+use crate::expectations::{ample, expect, expect_same};
 use std::process::Abort;
 use wasmparser_validate::operators::Frame;
 use wasmparser_validate::transaction::{
@@ -35,47 +35,45 @@ const ENTRY: Entry<'static> = Entry {
 };
 
 /// Records one of each, and all at once. There is something to undo behind each.
-fn record_each(rt: &impl Abort, log: &mut RollbackLog) -> Result<(), OutOfMemory> {
-    log.record_push()?;
-    log.record_pop(&I32)?;
+fn record_each(rt: &impl Abort, log: &mut RollbackLog) {
+    ample(rt, log.record_push());
+    ample(rt, log.record_pop(&I32));
     expect_same(rt, log.operands.len(), 2);
     expect_same(rt, log.operands.get(0), Some(&Some(I32)));
-    log.push_ctrl()?;
-    log.pop_ctrl(&BLOCK, &[1, 0])?;
+    ample(rt, log.push_ctrl());
+    ample(rt, log.pop_ctrl(&BLOCK, &[1, 0]));
     expect_same(rt, log.frames.get(0), Some(&Some(BLOCK)));
     expect_same(rt, log.inits.as_slice(), [1, 0].as_slice());
     let recorded: Result<(), NotDone> = log.record(ENTRY);
     expect(rt, recorded.is_err() || log.operands.len() == 5);
     log.set_unreachable();
     expect(rt, log.unreachable && log.has_changes(0));
-    Ok(())
 }
 
 #[test]
-fn a_log_records_each_change(rt: HostRuntime) -> Result<(), OutOfMemory> {
+fn a_log_records_each_change(rt: HostRuntime) {
     let mut log = RollbackLog::new(0, RollbackLogAllocations::new(rt.alloc()));
     expect(&rt, !log.has_changes(0) && log.has_changes(1));
-    record_each(&rt, &mut log)?;
+    record_each(&rt, &mut log);
     let mut allocs = log.into_allocations();
     let log = RollbackLog::new(0, allocs.take());
     let other = RollbackLog::new(1, RollbackLogAllocations::new(log.allocator()));
     expect(&rt, !log.has_changes(0) && !other.has_changes(1));
-    Ok(())
 }
 
 /// The same through an attempt that is pending.
-fn record_pending(pending: &mut Transaction) -> Result<(), OutOfMemory> {
-    pending.record_push()?;
-    pending.record_pop(&I32)?;
-    pending.push_ctrl()?;
-    pending.pop_ctrl(&BLOCK, &[1, 0])
+fn record_pending(rt: &impl Abort, pending: &mut Transaction) {
+    ample(rt, pending.record_push());
+    ample(rt, pending.record_pop(&I32));
+    ample(rt, pending.push_ctrl());
+    ample(rt, pending.pop_ctrl(&BLOCK, &[1, 0]));
 }
 
 #[test]
-fn an_attempt_records_each_change(rt: HostRuntime) -> Result<(), OutOfMemory> {
+fn an_attempt_records_each_change(rt: HostRuntime) {
     let mut attempt = Transaction::new(RollbackLogAllocations::new(rt.alloc()));
     attempt.begin(0);
-    record_pending(&mut attempt)?;
+    record_pending(&rt, &mut attempt);
     let recorded: Result<(), NotDone> = attempt.record(ENTRY);
     expect(&rt, attempt.has_changes(0));
     let log = attempt.take();
@@ -89,7 +87,6 @@ fn an_attempt_records_each_change(rt: HostRuntime) -> Result<(), OutOfMemory> {
     attempt.end();
     expect(&rt, !attempt.is_active() && !attempt.has_changes(0));
     attempt.into_allocations();
-    Ok(())
 }
 
 /// Records that an operand was pushed, by a closure over the log.
@@ -102,30 +99,28 @@ fn push_by_closure(attempt: &mut Transaction) -> Result<(), OutOfMemory>
 
 /// The closure is called on the log of a pending attempt; where none is pending nothing changes.
 #[test]
-fn a_change_of_the_log(rt: HostRuntime) -> Result<(), OutOfMemory> {
+fn a_change_of_the_log(rt: HostRuntime) {
     let mut attempt = Transaction::new(RollbackLogAllocations::new(rt.alloc()));
-    push_by_closure(&mut attempt)?;
+    ample(&rt, push_by_closure(&mut attempt));
     expect(&rt, !attempt.is_active() && !attempt.has_changes(0));
     attempt.begin(0);
-    push_by_closure(&mut attempt)?;
+    ample(&rt, push_by_closure(&mut attempt));
     expect(&rt, attempt.is_active() && attempt.has_changes(0));
-    Ok(())
 }
 
 /// Adds these numbers to a pile.
-fn put_each(pile: &mut Pile<u32>, numbers: &[u32]) -> Result<(), OutOfMemory> {
+fn put_each(rt: &impl Abort, pile: &mut Pile<u32>, numbers: &[u32]) {
     for number in numbers {
-        pile.take_room()?;
+        ample(rt, pile.take_room());
         pile.put(*number);
     }
-    Ok(())
 }
 
 #[test]
-fn a_pile_grows_and_shrinks_at_its_end(rt: HostRuntime) -> Result<(), OutOfMemory> {
+fn a_pile_grows_and_shrinks_at_its_end(rt: HostRuntime) {
     let mut pile = Pile::new(rt.alloc());
     expect(&rt, pile.is_empty() && !pile.has_room());
-    put_each(&mut pile, &[4, 5, 6])?;
+    put_each(&rt, &mut pile, &[4, 5, 6]);
     expect_same(&rt, pile.get(0), Some(&6));
     expect(&rt, pile.len() == 3);
     expect_same(&rt, pile.newest(2), [5, 6].as_slice());
@@ -138,19 +133,17 @@ fn a_pile_grows_and_shrinks_at_its_end(rt: HostRuntime) -> Result<(), OutOfMemor
     expect(&rt, pile.is_empty());
     let reserved: Result<(), NotDone> = pile.reserve(1);
     expect_same(&rt, reserved, Ok(()));
-    Ok(())
 }
 
 /// A push is undone, and what was popped is there again.
 #[test]
-fn a_trace_is_taken_back(rt: HostRuntime) -> Result<(), OutOfMemory> {
+fn a_trace_is_taken_back(rt: HostRuntime) {
     let mut pile = Pile::new(rt.alloc());
-    put_each(&mut pile, &[4, 5])?;
+    put_each(&rt, &mut pile, &[4, 5]);
     let mut trace = Pile::new(rt.alloc());
-    trace.take_room()?;
+    ample(&rt, trace.take_room());
     trace.put(None);
     take_back(&mut pile, &mut trace);
     expect_same(&rt, pile.get(0), Some(&4));
     expect(&rt, pile.len() == 1 && trace.is_empty());
-    Ok(())
 }

@@ -1,8 +1,7 @@
 //! A lookup over lists, by the calls of its trait: each look-up, each check, and the order over a long chain of types.
 
 use crate::expectations::{ample, expect, expect_error, expect_same};
-use crate::modules::{declared, lists_of};
-use std::alloc::AllocError;
+use crate::modules::lists_of;
 use std::process::Abort;
 use wasmparser_validate::resources::{ModuleDeclarations, ModuleLists, WasmModuleResources};
 use wasmparser_validate::types::{
@@ -96,46 +95,44 @@ fn expect_functions<R: WasmModuleResources>(rt: &impl Abort, lists: &R) {
 }
 
 #[test]
-fn each_list_is_looked_up(rt: HostRuntime) -> Result<(), AllocError> {
-    let lists = lists_of(&rt, MODULE)?;
+fn each_list_is_looked_up(rt: HostRuntime) {
+    let lists = lists_of(&rt, MODULE);
     expect_items(&rt, &lists);
     expect_functions(&rt, &lists);
-    Ok(())
 }
 
 /// Each check writes the canonical form, which is told without memory too.
-fn expect_canonical<R: WasmModuleResources>(rt: &impl Abort, lists: &R) -> Result<(), AllocError> {
+fn expect_canonical<R: WasmModuleResources>(rt: &impl Abort, lists: &R) {
     let declared = HeapType::Exact(UnpackedIndex::Module(2));
     let canonical = HeapType::Exact(by_id(2));
     let mut heap_type = declared;
-    ample(rt, lists.check_heap_type(&mut heap_type, 5))?;
+    ample(rt, lists.check_heap_type(&mut heap_type, 5));
     expect_same(rt, heap_type, canonical);
     expect_same(rt, lists.canonical_heap_type(declared), Some(canonical));
     let mut ty = reference(declared);
-    ample(rt, lists.check_ref_type(&mut ty, 5))?;
+    ample(rt, lists.check_ref_type(&mut ty, 5));
     expect_same(rt, ty, reference(canonical));
     expect_same(rt, lists.canonical_ref_type(reference(declared)), Some(ty));
     let mut value = ValType::Ref(reference(declared));
     let features = WasmFeatures::all();
-    ample(rt, lists.check_value_type(&mut value, &features, 5))?;
+    ample(rt, lists.check_value_type(&mut value, &features, 5));
     expect_same(rt, value, ValType::Ref(ty));
     let known = lists.canonical_value_type(ValType::Ref(reference(declared)), &features);
     expect_same(rt, known, Some(value));
-    Ok(())
 }
 
 /// A type that isn't declared is refused.
-fn expect_unknown<R: WasmModuleResources>(rt: &impl Abort, lists: &R) -> Result<(), AllocError> {
+fn expect_unknown<R: WasmModuleResources>(rt: &impl Abort, lists: &R) {
     let mut heap_type = HeapType::Concrete(UnpackedIndex::Module(5));
     let answer = lists.check_heap_type(&mut heap_type, 6);
-    expect_error(rt, answer, "unknown type 5: type index out of bounds", 6)
+    expect_error(rt, answer, "unknown type 5: type index out of bounds", 6);
 }
 
 #[test]
-fn each_check_writes_the_canonical_form(rt: HostRuntime) -> Result<(), AllocError> {
-    let lists = lists_of(&rt, MODULE)?;
-    expect_canonical(&rt, &lists)?;
-    expect_unknown(&rt, &lists)
+fn each_check_writes_the_canonical_form(rt: HostRuntime) {
+    let lists = lists_of(&rt, MODULE);
+    expect_canonical(&rt, &lists);
+    expect_unknown(&rt, &lists);
 }
 
 /// What is shared, and the tops of hierarchies.
@@ -157,10 +154,16 @@ fn expect_tops<R: WasmModuleResources>(rt: &impl Abort, lists: &R) {
 }
 
 #[test]
-fn tops_and_what_is_shared(rt: HostRuntime) -> Result<(), AllocError> {
-    let lists = lists_of(&rt, MODULE)?;
+fn tops_and_what_is_shared(rt: HostRuntime) {
+    let lists = lists_of(&rt, MODULE);
     expect_tops(&rt, &lists);
-    Ok(())
+}
+
+#[test]
+fn a_module_of_nothing_has_no_type(rt: HostRuntime) {
+    let nothing = ModuleDeclarations::new(rt.alloc());
+    let lists = ample(&rt, ModuleLists::from_declarations(rt.alloc(), nothing));
+    expect(&rt, lists.sub_type_at(0).is_none());
 }
 
 /// The type at this index of a chain of function types, each declared below the one before it.
@@ -174,10 +177,10 @@ fn link(rt: &impl AllocGlobal, index: u32) -> SubType {
 }
 
 /// The lookup over a chain of so many types.
-fn chain_of(rt: &(impl Abort + AllocGlobal), count: u32) -> Result<ModuleLists, AllocError> {
+fn chain_of(rt: &(impl Abort + AllocGlobal), count: u32) -> ModuleLists {
     let mut types = Vec::new(rt.alloc());
     for index in 0..count {
-        types.push(link(rt, index))?;
+        ample(rt, types.push(link(rt, index)));
     }
     let lists = ModuleLists::new(
         rt.alloc(),
@@ -195,11 +198,10 @@ fn chain_of(rt: &(impl Abort + AllocGlobal), count: u32) -> Result<ModuleLists, 
 
 /// The last of a thousand types is below the first, and not above it.
 #[test]
-fn order_of_a_long_chain(rt: HostRuntime) -> Result<(), AllocError> {
-    let lists = chain_of(&rt, 1_000)?;
+fn order_of_a_long_chain(rt: HostRuntime) {
+    let lists = chain_of(&rt, 1_000);
     let first = ValType::Ref(reference(HeapType::Concrete(by_id(0))));
     let last = ValType::Ref(reference(HeapType::Concrete(by_id(999))));
     expect(&rt, lists.is_subtype(last, first));
     expect(&rt, !lists.is_subtype(first, last));
-    Ok(())
 }

@@ -1,16 +1,15 @@
 //! What can be asked of a validator through the traits: what the operators of a body name, and which frame is open.
 
-ghost use Rattle.std.specs.Prelude.{◌≡◌, ◌<◌, ◌^◌};
+ghost use Rattle.std.specs.Prelude.{◌<◌, ◌^◌};
 ghost use Rattle.validate_stacks.specs.State.{IsStarting};
 ghost use Rattle.wasmparser_validate.specs.Start.{state};
 
-use crate::expectations::{ample, expect, expect_same};
-use crate::modules::lists_of;
-use std::alloc::AllocError;
+use crate::expectations::{expect, expect_same};
+use crate::modules::{lists_of, new_function};
 use std::process::Abort;
-use wasmparser_validate::operators::{OperatorValidator, OperatorValidatorAllocations};
+use wasmparser_validate::operators::OperatorValidator;
 use wasmparser_validate::resources::{ModuleLists, WasmModuleResources};
-use wasmparser_validate::types::{ContType, Flags, RefType, UnpackedIndex, WasmFeatures};
+use wasmparser_validate::types::{ContType, RefType, UnpackedIndex};
 use wasmparser_validate::visit::{BlockType, FrameKind, FrameStack, ModuleArity};
 
 /// Function 0 is of type 1, `[i32] -> [i64 i64]`; tags 0 and 1 are of types 0 and 1.
@@ -29,19 +28,12 @@ fn expect_names<M: ModuleArity>(rt: &impl Abort, body: &M) {
     expect_same(rt, body.label_block(1), None);
 }
 
-/// How many frames are open, through the trait.
-fn height_of<M: ModuleArity>(body: &M) -> u32
+/// One frame is open, a block.
+fn expect_one_frame<M: ModuleArity + FrameStack>(rt: &impl Abort, body: &M)
     requires { M.open_frames body.now < 2 ^ 32 }
-    ensures { result ≡ M.open_frames body.now }
 {
-    body.control_stack_height()
-}
-
-/// The kind of the frame that is open, through the trait.
-fn kind_of<S: FrameStack>(body: &S) -> Option<FrameKind>
-    ensures { result ≡ S.current body.now }
-{
-    body.current_frame()
+    expect_same(rt, body.control_stack_height(), 1);
+    expect_same(rt, body.current_frame(), Some(FrameKind::Block));
 }
 
 /// What a new body answers. A reference by its module's index has no id, and so names no type.
@@ -54,16 +46,11 @@ fn expect_answers(rt: &impl Abort, v: &mut OperatorValidator, lists: &ModuleList
     if let Some(index) = UnpackedIndex::Module(0).pack() {
         expect(rt, body.func_type_of_cont_type(&ContType(index)).is_none());
     }
-    expect_same(rt, height_of(&body), 1);
-    expect_same(rt, kind_of(&body), Some(FrameKind::Block));
+    expect_one_frame(rt, &body);
 }
 
 #[test]
-fn what_a_new_body_answers(rt: HostRuntime) -> Result<(), AllocError> {
-    let lists = lists_of(&rt, MODULE)?;
-    let allocs = OperatorValidatorAllocations::new(rt.alloc());
-    let begun = OperatorValidator::new_func(0, 0, &WasmFeatures::all(), &lists, allocs);
-    let mut v = ample(&rt, begun)?;
-    expect_answers(&rt, &mut v, &lists);
-    Ok(())
+fn what_a_new_body_answers(rt: HostRuntime) {
+    let lists = lists_of(&rt, MODULE);
+    expect_answers(&rt, &mut new_function(&rt, &lists), &lists);
 }

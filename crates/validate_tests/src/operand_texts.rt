@@ -1,7 +1,6 @@
 //! The texts of operands, those of the constants of reference types among them.
 
-use crate::expectations::expect_same;
-use std::alloc::AllocError;
+use crate::expectations::{ample, expect_same};
 use wasmparser_validate::types::{AbstractHeapType, MaybeType, RefType, ValType};
 
 /// What an operand prints. No clause says what a constant is.
@@ -24,10 +23,9 @@ const OPERANDS: &[(MaybeType, &str)] = &[
 ];
 
 #[test]
-fn texts_of_operands(rt: HostRuntime) -> Result<(), AllocError> {
+fn texts_of_operands(rt: HostRuntime) {
     for (operand, text) in OPERANDS {
-        let printed = format!(in rt.alloc(); "{operand}")?;
+        let printed = ample(&rt, format!(in rt.alloc(); "{operand}"));
         expect_same(&rt, printed.as_str(), *text);
     }
-    Ok(())
 }

@@ -2,7 +2,6 @@
 
 use crate::expectations::expect_same;
 use crate::modules::lists_of;
-use std::alloc::AllocError;
 use std::process::Abort;
 use wasmparser_validate::operators::{
     blocks_law, delimiters_law, heights_law, progress_law, safety_law, shape_law, ty_to_str,
@@ -73,13 +72,12 @@ fn texts_of_types(rt: HostRuntime) {
 
 /// They do nothing: their contracts are the laws.
 #[test]
-fn laws_are_there(rt: HostRuntime) -> Result<(), AllocError> {
-    let lists = lists_of(&rt, "type func ->")?;
+fn laws_are_there(rt: HostRuntime) {
+    let lists = lists_of(&rt, "type func ->");
     safety_law(&lists);
     progress_law(&lists);
     heights_law(&lists);
     blocks_law();
     delimiters_law();
     shape_law();
-    Ok(())
 }

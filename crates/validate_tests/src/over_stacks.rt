@@ -1,7 +1,7 @@
 //! Attempts that are taken back, over the stacks below a validator: there it can be seen which locals are set, and in which
 //! order they first were.
 
-ghost use Rattle.std.specs.Prelude.{◌≡◌, None, OnOk};
+ghost use Rattle.std.specs.Prelude.{◌≡◌, None};
 ghost use Rattle.validation_rules.specs.Operators.{operator};
 ghost use Rattle.validate_stacks.specs.Pops.{IsKept};
 ghost use Rattle.validate_stacks.specs.State.{IsStarting, IsValidBody};
@@ -9,11 +9,11 @@ ghost use Rattle.validate_stacks.specs.Steps.{empty_body};
 ghost use Rattle.validate_stacks.specs.Visits.{MayVisit, Meets};
 
 use crate::answers::add_answer;
-use crate::expectations::{ample, expect, expect_same};
+use crate::expectations::{ample, expect, expect_memory, expect_same, wants_memory};
 use crate::modules::lists_of;
-use crate::snapshot::{Seen, Snapshot};
+use crate::snapshot::{Seen, Snapshot, add_seen};
 use crate::visits::{I32_CONST, UNREACHABLE};
-use std::alloc::{AllocError, Global};
+use crate::written::Written;
 use std::mem;
 use std::process::Abort;
 use validate_operators::check_operator;
@@ -49,11 +49,11 @@ struct Whole {
 
 impl Whole {
     /// What can be seen now.
-    fn of(alloc: Global, stacks: &Stacks) -> Result<Whole, AllocError> {
-        Ok(Whole {
-            seen: Snapshot::of(alloc, stacks)?,
-            order: Vec::from_slice(alloc, stacks.inits().set_since(0))?,
-        })
+    fn of(rt: &(impl Abort + AllocGlobal), stacks: &Stacks) -> Whole {
+        Whole {
+            seen: Snapshot::of(rt, stacks),
+            order: ample(rt, Vec::from_slice(rt.alloc(), stacks.inits().set_since(0))),
+        }
     }
 
     /// Whether of the locals that were set none is unset.
@@ -74,25 +74,13 @@ impl Whole {
     }
 }
 
-/// Begins a body that takes nothing and gives nothing.
-fn open<R: WasmModuleResources>(stacks: &mut Stacks, lists: &R) -> Result<(), AllocError>
-    requires { stacks.old.body ≡ empty_body stacks.old.body.features }
-    ensures { OnOk result (IsStarting (R.context lists.now) stacks.new.body) }
-{
-    let _lists = lists;
-    match stacks.push_bare_ctrl(FrameKind::Block, BlockType::Empty) {
-        Ok(()) => Ok(()),
-        Err(_) => Err(AllocError),
-    }
-}
-
 /// Declares a group of locals.
 fn declare<R: WasmModuleResources>(
     rt: &impl Abort,
     stacks: &mut Stacks,
     lists: &R,
     group: LocalGroup,
-) -> Result<(), AllocError>
+)
     requires { IsStarting (R.context lists.now) stacks.old.body }
     ensures { IsStarting (R.context lists.now) stacks.new.body }
 {
@@ -103,12 +91,9 @@ fn declare<R: WasmModuleResources>(
         Err(refusal) => return ample(rt, Err(refusal)),
     }
     match stacks.define_locals(group.count, canonical) {
-        Ok(true) => Ok(()),
-        Ok(false) => {
-            expect(rt, false);
-            Ok(())
-        }
-        Err(_) => Err(AllocError),
+        Ok(true) => {}
+        Ok(false) => expect(rt, false),
+        Err(_) => expect_memory(rt, true),
     }
 }
 
@@ -118,15 +103,17 @@ fn begin<R: WasmModuleResources>(
     stacks: &mut Stacks,
     lists: &R,
     locals: &[LocalGroup],
-) -> Result<(), AllocError>
+)
     requires { stacks.old.body ≡ empty_body stacks.old.body.features }
-    ensures { OnOk result (IsStarting (R.context lists.now) stacks.new.body) }
+    ensures { IsStarting (R.context lists.now) stacks.new.body }
 {
-    open(stacks, lists)?;
+    ample(
+        rt,
+        stacks.push_bare_ctrl(FrameKind::Block, BlockType::Empty),
+    );
     for group in locals {
-        declare(rt, stacks, lists, *group)?;
+        declare(rt, stacks, lists, *group);
     }
-    Ok(())
 }
 
 /// One visit, with all that it promises.
@@ -155,86 +142,84 @@ fn visit<R: WasmModuleResources>(stacks: &mut Stacks, lists: &R, op: Op<'_>) -> 
 /// there within the attempt.
 fn add_undone<R: WasmModuleResources>(
     rt: &(impl Abort + AllocGlobal),
-    text: &mut String,
+    text: &mut Written,
     stacks: &mut Stacks,
     lists: &R,
     op: Op<'_>,
-) -> Result<(), AllocError>
+)
     requires idle { stacks.old.body.undone ≡ None }
     requires visit { MayVisit (R.context lists.now) stacks.old }
     ensures same { stacks.new.body ≡ stacks.old.body }
 {
-    let before = Whole::of(rt.alloc(), stacks)?;
+    let before = Whole::of(rt, stacks);
     stacks.begin_try_op();
     let answer = visit(stacks, lists, op);
-    let added = add_answer(text, &answer, stacks);
+    add_answer(text, &answer, stacks);
     stacks.rollback();
     expect(rt, before.is_of(stacks));
-    added
+    text.expect_memory(rt);
 }
 
 /// The same, and then the operator is visited, unless its line begins with `try`. Adds what is there behind it.
 fn add_step<R: WasmModuleResources>(
     rt: &(impl Abort + AllocGlobal),
-    text: &mut String,
+    text: &mut Written,
     stacks: &mut Stacks,
     lists: &R,
     op: Op<'_>,
     is_undone: bool,
-) -> Result<(), AllocError>
+)
     requires idle { stacks.old.body.undone ≡ None }
     requires visit { MayVisit (R.context lists.now) stacks.old }
     ensures idle { stacks.new.body.undone ≡ None }
     ensures valid { IsValidBody (R.context lists.now) stacks.new.body }
 {
-    add_undone(rt, text, stacks, lists, op)?;
+    add_undone(rt, text, stacks, lists, op);
     if is_undone {
-        return add_answer(text, &Ok(()), stacks);
-    }
-    match visit(stacks, lists, op) {
-        Err(refusal) if refusal.is_out_of_memory() => Err(AllocError),
-        _ => Ok(()),
+        add_seen(text, stacks);
+        text.expect_memory(rt);
+    } else {
+        let answer = visit(stacks, lists, op);
+        expect_memory(rt, wants_memory(&answer));
     }
 }
 
 /// Adds what the operators of these lines answer, one by one.
 fn add_each<R: WasmModuleResources>(
     rt: &(impl Abort + AllocGlobal),
-    text: &mut String,
+    text: &mut Written,
     stacks: &mut Stacks,
     lists: &R,
     body: (&str, &[(Op<'_>, u64)]),
-) -> Result<(), AllocError>
+)
     requires { IsStarting (R.context lists.now) stacks.old.body }
 {
     let (mut left, ops) = body;
     for pair in ops {
         if stacks.control_stack_height() == 0 {
-            return Ok(());
+            return;
         }
         let (line, behind) = left.split_once('\n').unwrap_or((left, ""));
         left = behind;
-        add_step(rt, text, stacks, lists, pair.0, line.starts_with("try "))?;
+        add_step(rt, text, stacks, lists, pair.0, line.starts_with("try "));
     }
-    Ok(())
 }
 
 /// Adds what the operators of a body answer that takes nothing and gives nothing, in these buffers.
 pub fn add_over_stacks<R: WasmModuleResources>(
     rt: &(impl Abort + AllocGlobal),
-    text: &mut String,
+    text: &mut Written,
     buffers: &mut OperatorValidatorAllocations,
     lists: &R,
     begin_with: (&WasmFeatures, &[LocalGroup]),
     body: (&str, &[(Op<'_>, u64)]),
-) -> Result<(), AllocError> {
+) {
     let (features, locals) = begin_with;
     let allocs = mem::replace(buffers, OperatorValidatorAllocations::new(rt.alloc()));
     let mut stacks = Stacks::new(*features, allocs);
-    begin(rt, &mut stacks, lists, locals)?;
-    let done = add_each(rt, text, &mut stacks, lists, body);
+    begin(rt, &mut stacks, lists, locals);
+    add_each(rt, text, &mut stacks, lists, body);
     *buffers = stacks.into_allocations();
-    done
 }
 
 /// Three locals of type `(ref func)`, of which there is no default value.
@@ -283,7 +268,7 @@ fn visit_each<R: WasmModuleResources>(
     stacks: &mut Stacks,
     lists: &R,
     ops: &[Op<'_>],
-) -> Result<(), AllocError>
+)
     requires idle { stacks.old.body.undone ≡ None }
     requires visit { MayVisit (R.context lists.now) stacks.old }
     ensures idle { stacks.new.body.undone ≡ None }
@@ -292,9 +277,8 @@ fn visit_each<R: WasmModuleResources>(
     for op in ops {
         let answer = visit(stacks, lists, *op);
         expect(rt, stacks.control_stack_height() > 0);
-        ample(rt, answer)?;
+        ample(rt, answer);
     }
-    Ok(())
 }
 
 /// The `if` is open and dead, nothing is on it, and the second local was set before the first.
@@ -312,7 +296,7 @@ fn expect_undone<R: WasmModuleResources>(
     stacks: &mut Stacks,
     lists: &R,
     attempt: &(Op<'static>, &[u32], FrameKind),
-) -> Result<(), AllocError>
+)
     requires idle { stacks.old.body.undone ≡ None }
     requires visit { MayVisit (R.context lists.now) stacks.old }
     ensures same { stacks.new.body ≡ stacks.old.body }
@@ -327,31 +311,26 @@ fn expect_undone<R: WasmModuleResources>(
     }
     stacks.rollback();
     expect_before(rt, stacks);
-    ample(rt, answer)
+    ample(rt, answer);
 }
 
 /// Each attempt in turn. Then the locals are there still.
-fn expect_attempts<R: WasmModuleResources>(
-    rt: &impl Abort,
-    stacks: &mut Stacks,
-    lists: &R,
-) -> Result<(), AllocError>
+fn expect_attempts<R: WasmModuleResources>(rt: &impl Abort, stacks: &mut Stacks, lists: &R)
     requires { IsStarting (R.context lists.now) stacks.old.body }
 {
-    visit_each(rt, stacks, lists, BEFORE)?;
+    visit_each(rt, stacks, lists, BEFORE);
     for attempt in ATTEMPTS {
-        expect_undone(rt, stacks, lists, attempt)?;
+        expect_undone(rt, stacks, lists, attempt);
     }
-    visit_each(rt, stacks, lists, BEHIND)?;
+    visit_each(rt, stacks, lists, BEHIND);
     expect_same(rt, stacks.heights(), (2, 2));
-    Ok(())
 }
 
 #[test]
-fn locals_are_set_in_the_order_before_an_attempt(rt: HostRuntime) -> Result<(), AllocError> {
-    let lists = lists_of(&rt, "type func ->")?;
+fn locals_are_set_in_the_order_before_an_attempt(rt: HostRuntime) {
+    let lists = lists_of(&rt, "type func ->");
     let allocs = OperatorValidatorAllocations::new(rt.alloc());
     let mut stacks = Stacks::new(WasmFeatures::all(), allocs);
-    begin(&rt, &mut stacks, &lists, UNSET)?;
-    expect_attempts(&rt, &mut stacks, &lists)
+    begin(&rt, &mut stacks, &lists, UNSET);
+    expect_attempts(&rt, &mut stacks, &lists);
 }

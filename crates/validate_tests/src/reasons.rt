@@ -5,11 +5,11 @@
 ghost use Rattle.wasmparser_validate.specs.Start.{state};
 ghost use Rattle.wasmparser_validate.specs.State.{IsStarting};
 
-use crate::expectations::{ample, expect_refused};
-use crate::visits::{I32_CONST, NOP, UNREACHABLE, begun, one_memory, visit, visit_well};
-use std::alloc::AllocError;
+use crate::expectations::{expect_same, refused};
+use crate::modules::lists_of;
+use crate::visits::{I32_CONST, NOP, UNREACHABLE, begun_in, visit, visit_well};
 use std::process::Abort;
-use wasmparser_validate::operators::OperatorValidator;
+use wasmparser_validate::operators::{OperatorValidator, OperatorValidatorAllocations};
 use wasmparser_validate::resources::WasmModuleResources;
 use wasmparser_validate::types::{Gate, HeapType, Refusal, UnpackedIndex, ValType};
 use wasmparser_validate::visit::{
@@ -111,28 +111,21 @@ fn expect_row<R: WasmModuleResources>(
     v: &mut OperatorValidator,
     lists: &R,
     row: &Row,
-) -> Result<(), AllocError>
+)
     requires { IsStarting (R.context lists.now) (state v.old) }
 {
     let (first, second, reason, text) = *row;
-    ample(rt, visit_well(rt, v, lists, first))?;
-    expect_refused(rt, visit(v, lists, second), reason, text)
+    visit_well(rt, v, lists, first);
+    let refusal = refused(rt, visit(v, lists, second), text);
+    expect_same(rt, refusal.reason(), reason);
 }
 
 /// Each row in a new body.
-fn expect_rows<R: WasmModuleResources>(
-    rt: &(impl Abort + AllocGlobal),
-    lists: &R,
-) -> Result<(), AllocError> {
-    for row in ROWS {
-        let mut v = ample(rt, begun(rt.alloc(), lists))?;
-        expect_row(rt, &mut v, lists, row)?;
-    }
-    Ok(())
-}
-
 #[test]
-fn reasons_of_refusals(rt: HostRuntime) -> Result<(), AllocError> {
-    let lists = ample(&rt, one_memory(rt.alloc()))?;
-    expect_rows(&rt, &lists)
+fn reasons_of_refusals(rt: HostRuntime) {
+    let lists = lists_of(&rt, "memory");
+    for row in ROWS {
+        let allocs = OperatorValidatorAllocations::new(rt.alloc());
+        expect_row(&rt, &mut begun_in(&rt, &lists, allocs), &lists, row);
+    }
 }

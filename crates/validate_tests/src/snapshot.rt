@@ -1,6 +1,8 @@
 //! What can be seen of a validator: its open frames and its operands.
 
-use std::alloc::{AllocError, Global};
+use crate::expectations::ample;
+use crate::written::Written;
+use std::process::Abort;
 use wasmparser_validate::func::FuncValidator;
 use wasmparser_validate::operators::{Frame, OperatorValidator};
 use wasmparser_validate::resources::WasmModuleResources;
@@ -55,36 +57,36 @@ pub struct Snapshot {
 }
 
 /// All open frames.
-fn frames_of<S: Seen>(alloc: Global, seen: &S) -> Result<Vec<Frame>, AllocError> {
+fn frames_of<S: Seen>(rt: &(impl Abort + AllocGlobal), seen: &S) -> Vec<Frame> {
     let (_, count) = seen.heights();
-    let mut frames = Vec::new(alloc);
+    let mut frames = Vec::new(rt.alloc());
     for depth in 0..count {
         if let Some(frame) = seen.frame(depth) {
-            frames.push(frame)?;
+            ample(rt, frames.push(frame));
         }
     }
-    Ok(frames)
+    frames
 }
 
 /// All operands.
-fn operands_of<S: Seen>(alloc: Global, seen: &S) -> Result<Vec<Option<ValType>>, AllocError> {
+fn operands_of<S: Seen>(rt: &(impl Abort + AllocGlobal), seen: &S) -> Vec<Option<ValType>> {
     let (count, _) = seen.heights();
-    let mut operands = Vec::new(alloc);
+    let mut operands = Vec::new(rt.alloc());
     for depth in 0..count {
         if let Some(operand) = seen.operand(depth) {
-            operands.push(operand)?;
+            ample(rt, operands.push(operand));
         }
     }
-    Ok(operands)
+    operands
 }
 
 impl Snapshot {
     /// What can be seen now.
-    pub fn of<S: Seen>(alloc: Global, seen: &S) -> Result<Snapshot, AllocError> {
-        Ok(Snapshot {
-            frames: frames_of(alloc, seen)?,
-            operands: operands_of(alloc, seen)?,
-        })
+    pub fn of<S: Seen>(rt: &(impl Abort + AllocGlobal), seen: &S) -> Snapshot {
+        Snapshot {
+            frames: frames_of(rt, seen),
+            operands: operands_of(rt, seen),
+        }
     }
 
     /// Whether the operands are the same now.
@@ -144,36 +146,37 @@ fn kind_name(kind: FrameKind) -> &'static str {
 }
 
 /// Adds the types of the operands, the top last, `?` for one that isn't known.
-fn add_operands<S: Seen>(text: &mut String, seen: &S) -> Result<(), AllocError> {
+fn add_operands<S: Seen>(text: &mut Written, seen: &S) {
     let (count, _) = seen.heights();
     for depth in (0..count).rev() {
         match seen.operand(depth).flatten() {
-            Some(ty) => write!(text, "{ty}")?,
-            None => text.push_str("?")?,
+            Some(ty) => text.add(ty),
+            None => text.add("?"),
         }
         if depth > 0 {
-            text.push_str(" ")?;
+            text.add(" ");
         }
     }
-    Ok(())
 }
 
 /// Adds the innermost frame, `none` where none is open.
-fn add_frame<S: Seen>(text: &mut String, seen: &S) -> Result<(), AllocError> {
+fn add_frame<S: Seen>(text: &mut Written, seen: &S) {
     match seen.frame(0) {
         Some(frame) => {
-            let mark = if frame.unreachable { "dead " } else { "" };
-            write!(text, "{mark}{}", kind_name(frame.kind))
+            text.add(if frame.unreachable { "dead " } else { "" });
+            text.add(kind_name(frame.kind));
         }
-        None => text.push_str("none"),
+        None => text.add("none"),
     }
 }
 
-/// Adds what can be seen: how many operands and frames there are, the types of the operands, and the innermost frame.
-pub fn add_seen<S: Seen>(text: &mut String, seen: &S) -> Result<(), AllocError> {
+/// Adds a line of what can be seen: how many operands and frames there are, the types of the operands, and the innermost
+/// frame.
+pub fn add_seen<S: Seen>(text: &mut Written, seen: &S) {
     let (operands, frames) = seen.heights();
-    write!(text, "{operands} {frames}; [")?;
-    add_operands(text, seen)?;
-    text.push_str("]; ")?;
-    add_frame(text, seen)
+    text.add(format_args!("{operands} {frames}; ["));
+    add_operands(text, seen);
+    text.add("]; ");
+    add_frame(text, seen);
+    text.add("\n");
 }

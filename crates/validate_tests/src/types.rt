@@ -1,6 +1,6 @@
 //! Types, features and refusals: a call of each function, with what the standard and the proposals say.
 
-use crate::expectations::{expect, expect_same};
+use crate::expectations::{ample, expect, expect_same};
 use std::alloc::AllocError;
 use std::process::Abort;
 use wasmparser_validate::types::{
@@ -165,20 +165,23 @@ fn is_below(a: ValType, b: ValType) -> bool {
 
 /// It takes what is above, and gives what is below.
 #[test]
-fn the_order_of_signatures(rt: HostRuntime) -> Result<(), AllocError> {
+fn the_order_of_signatures(rt: HostRuntime) {
     let any = ValType::Ref(RefType::ANYREF);
     let eq = ValType::Ref(RefType::EQREF);
-    let ty = FuncType::new(vec![in rt.alloc(); any]?, vec![in rt.alloc(); eq]?);
+    let ty = FuncType::new(
+        ample(&rt, vec![in rt.alloc(); any]),
+        ample(&rt, vec![in rt.alloc(); eq]),
+    );
     let (takes, gives) = (ty.params(), ty.results());
     let is_lower = func_signature_matches(takes, gives, &[eq], &[any], is_below);
     let is_higher = func_signature_matches(&[eq], &[any], takes, gives, is_below);
     expect(&rt, is_lower && !is_higher);
-    Ok(())
 }
 
 #[test]
-fn refusals_with_their_texts(rt: HostRuntime) -> Result<(), AllocError> {
-    let refusal = Error::with_text("told".to_string(rt.alloc())?, 5);
+fn refusals_with_their_texts(rt: HostRuntime) {
+    let told = ample(&rt, "told".to_string(rt.alloc()));
+    let refusal = Error::with_text(told, 5);
     expect_same(&rt, refusal.message(), "told");
     expect(&rt, refusal.offset() == 5 && !refusal.is_out_of_memory());
     let moved = refusal.at(6).because(Refusal::UnknownLabel);
@@ -186,6 +189,7 @@ fn refusals_with_their_texts(rt: HostRuntime) -> Result<(), AllocError> {
     expect_same(&rt, moved.reason(), Some(Refusal::UnknownLabel));
     let unmade = Error::from_text(Err(AllocError), 7);
     expect(&rt, unmade.is_out_of_memory());
+    expect(&rt, Error::out_of_memory(7).is_out_of_memory());
     expect_same(&rt, unmade.message(), "out of memory");
     let plain = Error::new("plain", 8);
     expect(&rt, plain.message() == "plain" && plain.reason().is_none());
@@ -193,7 +197,6 @@ fn refusals_with_their_texts(rt: HostRuntime) -> Result<(), AllocError> {
     expect(&rt, matches!(arity, Wording::Fixed("invalid result arity")));
     let local = Refusal::UnknownLocal(7).wording();
     expect(&rt, matches!(local, Wording::Index { index: 7, .. }));
-    Ok(())
 }
 
 /// What a body answers if it refuses, told or not.

@@ -1,7 +1,7 @@
 //! Validators of bodies without locals, and single visits: by the value of the operator, by the visitor, by the visitor's
 //! call of the operator's own name, and by the call of its group.
 
-ghost use Rattle.std.specs.Prelude.{◌≡◌, None, IfOk};
+ghost use Rattle.std.specs.Prelude.{◌≡◌, None};
 ghost use Rattle.validation_rules.specs.Operators.{operator};
 ghost use Rattle.validate_stacks.specs.Pops.{IsKept};
 ghost use Rattle.validate_stacks.specs.State.{IsStarting, IsValidBody};
@@ -9,14 +9,13 @@ ghost use Rattle.validate_stacks.specs.Visits.{MayVisit, Meets};
 ghost use Rattle.wasmparser_validate.specs.Start.{state, stacks_of};
 
 use crate::expectations::{ample, expect};
-use std::alloc::{AllocError, Global};
 use std::process::Abort;
 use validate_body::begin_body;
 use wasmparser_validate::operators::{
     OperatorValidator, OperatorValidatorAllocations, WasmProposalValidator,
 };
-use wasmparser_validate::resources::{ModuleDeclarations, ModuleLists, WasmModuleResources};
-use wasmparser_validate::types::{Error, Flags, MemoryType, ValType, WasmFeatures};
+use wasmparser_validate::resources::WasmModuleResources;
+use wasmparser_validate::types::{Error, Flags, ValType, WasmFeatures};
 use wasmparser_validate::visit::{
     ArrayOp, AtomicOp, BlockType, BodyKind, ContinuationOp, ControlOp, ConvertOp, ExceptionOp,
     Exchange, MemoryOp, NumericOp, Op, OperatorChecks, ReferenceOp, SharedOp, StructOp, TableOp,
@@ -33,42 +32,17 @@ pub const I64_CONST: Op<'static> = Op::Numeric(NumericOp::I64Const(5));
 
 pub const BLOCK: Op<'static> = Op::Control(ControlOp::Block(BlockType::Empty));
 
-/// A module that has one memory.
-pub fn one_memory(alloc: Global) -> Result<ModuleLists, Error> {
-    let mut declarations = ModuleDeclarations::new(alloc);
-    let memory = MemoryType {
-        memory64: false,
-        shared: false,
-    };
-    if declarations.memories.push(memory).is_err() {
-        return Err(Error::out_of_memory(0));
-    }
-    ModuleLists::from_declarations(alloc, declarations)
-}
-
 /// A validator of an expression of type i32 in these buffers, with every proposal on but tail calls.
 pub fn begun_in<R: WasmModuleResources>(
+    rt: &impl Abort,
     lists: &R,
     allocs: OperatorValidatorAllocations,
-) -> Result<OperatorValidator, Error>
-    ensures { IfOk result (λ v. IsStarting (R.context lists.now) (state v)) }
+) -> OperatorValidator
+    ensures { IsStarting (R.context lists.now) (state result) }
 {
     let features = WasmFeatures::all().difference(WasmFeatures::TAIL_CALL);
-    begin_body(
-        lists,
-        &features,
-        BodyKind::Expression(ValType::I32),
-        0,
-        &[],
-        allocs,
-    )
-}
-
-/// The same in new buffers.
-pub fn begun<R: WasmModuleResources>(alloc: Global, lists: &R) -> Result<OperatorValidator, Error>
-    ensures { IfOk result (λ v. IsStarting (R.context lists.now) (state v)) }
-{
-    begun_in(lists, OperatorValidatorAllocations::new(alloc))
+    let kind = BodyKind::Expression(ValType::I32);
+    ample(rt, begin_body(lists, &features, kind, 0, &[], allocs))
 }
 
 /// By which call an operator is visited.
@@ -205,7 +179,7 @@ pub fn visit_well<R: WasmModuleResources>(
     v: &mut OperatorValidator,
     lists: &R,
     op: Op<'_>,
-) -> Result<(), Error>
+)
     requires idle { (state v.old).undone ≡ None }
     requires visit { MayVisit (R.context lists.now) (stacks_of v.old) }
     ensures idle { (state v.new).undone ≡ None }
@@ -213,7 +187,7 @@ pub fn visit_well<R: WasmModuleResources>(
 {
     let answer = visit(v, lists, op);
     expect(rt, v.control_stack_height() > 0);
-    answer
+    ample(rt, answer);
 }
 
 /// Visits operators that are accepted, and leave a frame open.
@@ -222,14 +196,13 @@ pub fn visit_each<R: WasmModuleResources>(
     v: &mut OperatorValidator,
     lists: &R,
     ops: &[Op<'_>],
-) -> Result<(), AllocError>
+)
     requires idle { (state v.old).undone ≡ None }
     requires visit { MayVisit (R.context lists.now) (stacks_of v.old) }
     ensures idle { (state v.new).undone ≡ None }
     ensures visit { MayVisit (R.context lists.now) (stacks_of v.new) }
 {
     for op in ops {
-        ample(rt, visit_well(rt, v, lists, *op))?;
+        visit_well(rt, v, lists, *op);
     }
-    Ok(())
 }

@@ -1,6 +1,6 @@
 #!/usr/bin/env python3
-"""Tests of the tools that try wrong bodies and planted changes: what they find in a crate's text, which edits they take, and
-what counts as a refusal."""
+"""Tests of the tools that try wrong bodies and planted changes: what they find in a crate's text, which edits they take
+and what counts as a refusal. And of those that read the table of operators, and write from it."""
 
 import importlib.machinery
 import importlib.util
@@ -10,6 +10,7 @@ from pathlib import Path
 
 import edits
 import functions
+import operators
 from crates import ROOT, Unusable, below
 
 SOURCE = """//! A crate.
@@ -176,6 +177,50 @@ class Graph(unittest.TestCase):
         planted = tool("planted")
         self.assertEqual(planted.between("middle", "high", self.USES), ["middle", "high"])
         self.assertEqual(planted.between("low", "low", self.USES), ["low"])
+
+
+class Table(unittest.TestCase):
+    """Tests over a table of two operators."""
+
+    HEAD = "\t".join(operators.COLUMNS)
+    NOP = "nop\tnop\t\tOp::Control(ControlOp::Nop)\t0x01\tPlain\tMvp\t`nop`: `[] -> []`."
+    INIT = ("table.init\ttable_init\telem_index: u32, table: u32\tOp::Table(TableOp::TableInit { elem_index, table })"
+            "\t0xfc0c\tTwoIndices\tBulkMemory\t`table.init`: `[a i32 i32] -> []`.")
+
+    def read(self, *lines):
+        return operators.read("\n".join([self.HEAD, *lines]))
+
+    def refused(self, why, *lines):
+        self.assertRaisesRegex(operators.Wrong, why, self.read, *lines)
+
+    def test_a_line_is_an_operator(self):
+        _, init = self.read(self.NOP, self.INIT)
+        self.assertEqual((init.name, init.group, init.code), ("table.init", "Table", 0xfc0c))
+        self.assertEqual(init.types, ["u32", "u32"])
+        renamed = init.op.with_names({"elem_index": "first", "table": "second"})
+        self.assertEqual(str(renamed), "TableOp::TableInit { elem_index: first, table: second }")
+
+    def test_a_line_with_too_few_columns_is_refused(self):
+        self.refused("operators.tsv:3: 7 columns in place of 8", self.NOP, self.INIT.replace("\tBulkMemory", ""))
+
+    def test_what_is_there_twice_is_refused(self):
+        again = self.INIT.replace("table_init", "again").replace("0xfc0c", "0xfc40")
+        self.refused("the code 0x01 is there twice", self.NOP, self.INIT.replace("0xfc0c", "0x01"))
+        self.refused("the visit table_init is there twice", self.INIT, self.INIT)
+        self.refused("the value .* is there twice", self.INIT, again)
+
+    def test_a_value_that_is_not_written_as_rust_writes_it_is_refused(self):
+        self.refused("isn't a value", self.INIT.replace(" }", "}"))
+        self.refused("isn't an `Op`", self.NOP.replace("Op::Control(ControlOp::Nop)", "ControlOp::Nop"))
+
+    def test_words_keep_their_order_and_new_ones_go_to_the_end(self):
+        rows = {word: f'("{word}"),' for word in ("a", "b", "c")}
+        self.assertEqual(tool("generate").in_order(rows, '("c"), ("gone"), ("a")'), '("c"),("a"),("b"),')
+
+    def test_a_part_stands_between_two_texts(self):
+        part = tool("generate").Part("a.rt", ("fn b", "{\n"), "}", "new\n")
+        self.assertEqual(part.within("fn a {\n}\nfn b {\nold\n}\n"), "fn a {\n}\nfn b {\nnew\n}\n")
+        self.assertRaisesRegex(operators.Wrong, "'fn b' isn't there", part.within, "fn a {\n}\n")
 
 
 if __name__ == "__main__":

@@ -66,7 +66,8 @@ fn operator_by_call<A: Refused, R: WasmModuleResources>(
     any_operator(body, op)
 }
 
-/// Whether the body of an operator was done. False, with nothing changed, where it was refused or wanted memory.
+/// The fast lane of [`check_operator`]: whether the body of an operator was done. False, with nothing
+/// changed, where it was refused or wanted memory.
 #[inline(always)]
 pub fn operator_at_once<R: WasmModuleResources>(stacks: &mut Stacks, resources: &R, op: &Op) -> bool
     requires { MayVisit (R.context resources.now) stacks.old }

@@ -253,8 +253,8 @@ fn write_form<T: Copy>(
     }
 }
 
-/// Whether it is a number type or the vector type, where the gates of all those are open. Such a type is its own
-/// canonical form.
+/// The fast lane of [`open_form`]: whether it is a number type or the vector type, where the gates of all
+/// those are open. Such a type is its own canonical form.
 #[inline(always)]
 fn is_open_number(ty: ValType, features: WasmFeatures) -> bool
     ensures { (count : ℕ) → IsTrue result → canonical_under count features ty ≡ Some ty }

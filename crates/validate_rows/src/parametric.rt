@@ -63,7 +63,7 @@ fn find_selected<A: Refused>(lower: &MaybeType, upper: &MaybeType) -> Result<May
     }
 }
 
-/// Whether it is a number or vector type.
+/// The fast lane of [`any_select`] asks this: whether it is a number or vector type.
 #[inline(always)]
 fn is_number(ty: ValType) -> bool
     ensures { result ≡ is_number_or_vector ty }

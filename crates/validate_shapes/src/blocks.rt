@@ -108,7 +108,8 @@ fn open_over_any<A: Refused, R: WasmModuleResources>(
     open_frame(body, kind, &[], block_type)
 }
 
-/// [`open_frame`] with nothing above the parameters: most stand there already, known to be of these number or vector types.
+/// The fast lane of [`open_over_any`]: most parameters stand there already, known to be of these number or
+/// vector types. It is [`open_frame`] with nothing above the parameters.
 #[inline(always)]
 fn open_over_params<A: Refused, R: WasmModuleResources>(
     body: Body<'_, '_, R>,

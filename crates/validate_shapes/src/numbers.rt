@@ -59,7 +59,8 @@ pub fn accessed(access: AtomicAccess) -> ValType
     }
 }
 
-/// A list of one number or vector type.
+/// The fast lane of [`crate::plain::plain`] hands this on: a list of one number or vector type. It is a
+/// constant, so that it doesn't lie in memory; a list written in its place is the same.
 #[inline(always)]
 pub fn once(ty: ValType) -> &'static [ValType]
     requires { is_number_or_vector ty ≡ true }
@@ -75,7 +76,8 @@ pub fn once(ty: ValType) -> &'static [ValType]
     }
 }
 
-/// A list of one number or vector type, twice.
+/// The fast lane of [`crate::plain::plain`] hands this on: a list of one number or vector type, twice. It is
+/// a constant, as [`once`].
 #[inline(always)]
 pub fn twice(ty: ValType) -> &'static [ValType]
     requires { is_number_or_vector ty ≡ true }

@@ -108,7 +108,7 @@ fn operands_giving<A: Refused, R: WasmModuleResources>(
     }
 }
 
-/// `[expected] -> []`
+/// The fast lane of [`operands_giving`] where nothing is given: `[expected] -> []`
 #[inline(always)]
 fn operands_gone<A: Refused, R: WasmModuleResources>(
     body: Body<'_, '_, R>,
@@ -125,7 +125,7 @@ fn operands_gone<A: Refused, R: WasmModuleResources>(
     }
 }
 
-/// `[expected] -> [pushed]`, where one is given.
+/// The fast lane of [`operands_giving`] where one operand is given: `[expected] -> [pushed]`.
 #[inline(always)]
 fn operands_giving_one<A: Refused, R: WasmModuleResources>(
     body: Body<'_, '_, R>,

@@ -30,7 +30,7 @@ pub fn plain<A: Refused, R: WasmModuleResources>(
     body.exchange_types(expected, pushed)
 }
 
-/// `[] -> [pushed]`
+/// The fast lane of [`plain`] where nothing is expected: `[] -> [pushed]`
 #[inline(always)]
 pub fn constant<A: Refused, R: WasmModuleResources>(
     body: Body<'_, '_, R>,
@@ -44,8 +44,8 @@ pub fn constant<A: Refused, R: WasmModuleResources>(
     body.stacks.push_operand(MaybeType::Known(pushed))
 }
 
-/// `[expected] -> [pushed]`. The list is written twice, so that nothing of it lies in memory where the first call takes
-/// it.
+/// The fast lane of [`plain`] from one number or vector: `[expected] -> [pushed]`. The list is written twice,
+/// so that nothing of it lies in memory where the first call takes it.
 #[inline(always)]
 pub fn unary<A: Refused, R: WasmModuleResources>(
     body: Body<'_, '_, R>,
@@ -68,8 +68,9 @@ pub fn unary<A: Refused, R: WasmModuleResources>(
     plain(body, &[expected], &[pushed])
 }
 
-/// `[expected] -> [pushed]` of any types. An operand that is known to be of that type, be it that a reference is exact in
-/// it or without null, is exchanged without a call.
+/// The fast lane of [`plain`] from one operand of any type: `[expected] -> [pushed]`. An operand that is
+/// known to be of that type, be it that a reference is exact in it or without null, is exchanged without a
+/// call.
 #[inline(always)]
 pub fn one_for_one<A: Refused, R: WasmModuleResources>(
     body: Body<'_, '_, R>,
@@ -92,7 +93,7 @@ pub fn one_for_one<A: Refused, R: WasmModuleResources>(
     plain(body, &[expected], &[pushed])
 }
 
-/// `[low top] -> [pushed]` of any types, as [`one_for_one`].
+/// The fast lane of [`plain`] from two operands of any types: `[low top] -> [pushed]`, as [`one_for_one`].
 #[inline(always)]
 pub fn one_for_both<A: Refused, R: WasmModuleResources>(
     body: Body<'_, '_, R>,
@@ -117,7 +118,7 @@ pub fn one_for_both<A: Refused, R: WasmModuleResources>(
     plain(body, &[low, top], &[pushed])
 }
 
-/// `[low top] -> []` of any types, as [`one_for_one`].
+/// The fast lane of [`plain`] where two operands of any types go: `[low top] -> []`, as [`one_for_one`].
 #[inline(always)]
 pub fn none_for_both<A: Refused, R: WasmModuleResources>(
     body: Body<'_, '_, R>,
@@ -140,8 +141,8 @@ pub fn none_for_both<A: Refused, R: WasmModuleResources>(
     plain(body, &[low, top], &[])
 }
 
-/// `[expected expected] -> [pushed]` of numbers or vectors. The lists of the call are constants, so that none lies in
-/// memory.
+/// The fast lane of [`plain`] from two equal numbers or vectors: `[expected expected] -> [pushed]`. The lists
+/// of the call are constants, so that none lies in memory.
 #[inline(always)]
 pub fn binary<A: Refused, R: WasmModuleResources>(
     body: Body<'_, '_, R>,
@@ -166,7 +167,7 @@ pub fn binary<A: Refused, R: WasmModuleResources>(
     plain(body, twice(expected), once(pushed))
 }
 
-/// `[low top] -> []`
+/// The fast lane of [`plain`] where two numbers or vectors go: `[low top] -> []`
 #[inline(always)]
 pub fn pop_both<A: Refused, R: WasmModuleResources>(
     body: Body<'_, '_, R>,

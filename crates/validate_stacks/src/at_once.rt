@@ -22,9 +22,10 @@ use validate_types::{MaybeType, ValType};
 use validate_visit::{BlockType, FrameKind};
 
 impl Stacks {
-    /// [`Body::exchange_types`] of number and vector types alone, of which some are expected, where no attempt is
-    /// pending: the innermost frame has as many own operands, known to be of these very types, or is dead and has none. False, with
-    /// nothing changed, where that isn't so. In live code it makes no call, so it is short where it is inlined.
+    /// The fast lane of [`Body::exchange_types`] for number and vector types alone, of which some are
+    /// expected, where no attempt is pending. The innermost frame has as many own operands, known to be of
+    /// these very types, or is dead and has none. False, with nothing changed, where that isn't so. In live
+    /// code it makes no call, so it is short where it is inlined.
     #[inline(always)]
     pub fn exchange_numbers_at_once<R: WasmModuleResources>(
         &mut self,
@@ -66,9 +67,10 @@ impl Stacks {
         true
     }
 
-    /// [`Body::exchange_types`] of some expected types, where no attempt is pending: the innermost frame has as many own
-    /// operands, known to be of these types, be it that a reference is exact in its type or without null. False, with
-    /// nothing changed, where that isn't so. It makes no call.
+    /// The fast lane of [`Body::exchange_types`] for types that are known, of which some are expected, where
+    /// no attempt is pending. The innermost frame has as many own operands, known to be of these types, be it
+    /// that a reference is exact in its type or without null. False, with nothing changed, where that isn't
+    /// so. It makes no call.
     #[inline(always)]
     pub fn exchange_known_at_once<R: WasmModuleResources>(
         &mut self,
@@ -104,8 +106,9 @@ impl Stacks {
         true
     }
 
-    /// Whether the operand that is found is an own one of the innermost frame, and known to be of this number or vector type,
-    /// while no attempt is pending: then a pop and a push of the type leave what there is.
+    /// The fast lane of [`Body::exchange_types`] from a type to itself: whether the operand that is found is
+    /// an own one of the innermost frame, and known to be of this number or vector type, while no attempt is
+    /// pending. Then a pop and a push of the type leave what there is.
     #[inline(always)]
     pub fn has_number_at_once<R: WasmModuleResources>(&self, resources: &R, ty: ValType) -> bool
         requires valid { Valid (R.context resources.now) ty }
@@ -119,8 +122,9 @@ impl Stacks {
         self.has_same_numbers(resources, &[ty])
     }
 
-    /// Pushes an operand of this type, where the innermost frame is dead, has no own operands, and there is room: whatever
-    /// is expected is found there. False, with nothing changed, where that isn't so.
+    /// The fast lane of [`Body::exchange_types`] in dead code: pushes an operand of this type, where the
+    /// innermost frame is dead, has no own operands, and there is room. Whatever is expected is found there.
+    /// False, with nothing changed, where that isn't so.
     #[inline(never)]
     fn push_in_dead_code(&mut self, ty: ValType) -> bool
         ensures exact { MatchBool result (self.new.body ≡ body_pushed (Known ty) self.old.body)
@@ -138,8 +142,9 @@ impl Stacks {
         }
     }
 
-    /// Takes so many own operands of the innermost frame, while no attempt is pending, and pushes one, where there is
-    /// room, if none goes. False, with nothing changed, where there is none. It takes no memory.
+    /// The fast lane of [`Stacks::replace_any`]: takes so many own operands of the innermost frame, while no
+    /// attempt is pending, and pushes one, where there is room, if none goes. False, with nothing changed,
+    /// where there is none. It takes no memory.
     #[inline(always)]
     pub(crate) fn replace_own(&mut self, count: usize, pushed: MaybeType) -> bool
         requires idle { self.old.body.undone ≡ None }
@@ -157,9 +162,10 @@ impl Stacks {
         true
     }
 
-    /// Takes the parameters of a block type, and opens a frame over them: where no attempt is pending, there is room, and
-    /// the innermost frame has own operands that are known to be of these number or vector types. False, with nothing
-    /// changed, where that isn't so. It takes no memory.
+    /// The fast lane of [`Body::find_operands`] and then [`Stacks::open`]: takes the parameters of a block
+    /// type, and opens a frame over them. No attempt is pending, there is room, and the innermost frame has
+    /// own operands that are known to be of these number or vector types. False, with nothing changed, where
+    /// that isn't so. It takes no memory.
     #[inline(always)]
     pub fn open_over_params_at_once<R: WasmModuleResources>(
         &mut self,

@@ -22,8 +22,9 @@ use validate_types::{FieldType, MaybeType, Refusal, Refused, ValType};
 use validate_visit::{BlockType, FrameKind};
 
 impl<R: WasmModuleResources> Body<'_, '_, R> {
-    /// That pops of these types would pass, the last of the list first, after one other pop or none. It refuses where an
-    /// operand isn't found, or doesn't fit. Numbers and vectors are found without a call.
+    /// The fast lane of [`Stacks::find_by_call`]: numbers and vectors are found without a call. That pops of
+    /// these types would pass, the last of the list first, after one other pop or none. It refuses where an
+    /// operand isn't found, or doesn't fit.
     #[inline(always)]
     pub fn find_operands<A: Refused>(&self, above: usize, expected: &[ValType]) -> Result<(), A>
         requires above { above ≤ 1 }
@@ -133,8 +134,9 @@ impl Stacks {
         self.find_among(resources, self.own_len(), above, expected)
     }
 
-    /// Whether pops of these types would pass after so many others, since each finds an operand that isn't known at all, or
-    /// is known to be of the expected number or vector type.
+    /// The fast lane of [`Stacks::find_among`]: whether pops of these types would pass after so many others,
+    /// since each finds an operand that isn't known at all, or is known to be of the expected number or
+    /// vector type.
     #[inline(always)]
     fn has_numbers<R: WasmModuleResources>(
         &self,

@@ -16,8 +16,9 @@ use validate_resources::WasmModuleResources;
 use validate_types::{MaybeType, ValType};
 
 impl Stacks {
-    /// Whether the top own operands of the innermost frame, which has so many at least, are known to be of these
-    /// number or vector types, the last of the list on top. Nothing else is asked, so that no call is made.
+    /// The fast lane of [`Body::exchange_types`] asks this: whether the top own operands of the innermost
+    /// frame, which has so many at least, are known to be of these number or vector types, the last of the
+    /// list on top. Nothing else is asked, so that no call is made.
     #[inline(always)]
     pub(crate) fn has_same_numbers<R: WasmModuleResources>(
         &self,
@@ -47,8 +48,9 @@ impl Stacks {
         true
     }
 
-    /// Whether the top own operands of the innermost frame, which has so many at least, are known to be of these types, be
-    /// it that a reference is exact in its type or without null; the last of the list on top. No call is made.
+    /// The fast lane of [`Stacks::find_among`] for own operands: whether the top ones of the innermost frame,
+    /// which has so many at least, are known to be of these types, be it that a reference is exact in its
+    /// type or without null; the last of the list on top. No call is made.
     #[inline(always)]
     pub(crate) fn has_known<R: WasmModuleResources>(
         &self,
@@ -70,8 +72,8 @@ impl Stacks {
         true
     }
 
-    /// Whether the own operand of the innermost frame at this depth is known to be of this type, be it that a reference
-    /// is exact in its type or without null.
+    /// The fast lane of [`Stacks::is_fitting_at`] for an own operand: whether that of the innermost frame at
+    /// this depth is known to be of this type, be it that a reference is exact in its type or without null.
     #[inline(always)]
     fn is_known_at<R: WasmModuleResources>(
         &self,
@@ -92,7 +94,8 @@ impl Stacks {
         }
     }
 
-    /// Whether the own operand of the innermost frame at this depth is known to be of this number or vector type.
+    /// The fast lane of [`Body::exchange_types`] asks this of each operand: whether the own one of the
+    /// innermost frame at this depth is known to be of this number or vector type.
     #[inline(always)]
     fn is_same_number_at(&self, depth: usize, expected: ValType) -> bool
         requires { depth < length (innermost_operands self.now.body.present.frames) }
@@ -104,8 +107,9 @@ impl Stacks {
         }
     }
 
-    /// Whether the operand that a pop finds after so many others fits the expected type, where the innermost frame
-    /// has so many own operands.
+    /// The fast lane of [`Stacks::is_fitting_by_order`]: whether the operand that a pop finds after so many
+    /// others fits the expected type, where the innermost frame has so many own operands. Equal numbers and
+    /// vectors fit without a call.
     #[inline(always)]
     pub(crate) fn is_fitting_at<R: WasmModuleResources>(
         &self,
@@ -126,8 +130,9 @@ impl Stacks {
         self.is_fitting_by_order(resources, depth, expected)
     }
 
-    /// Whether the operand that a pop finds after so many others isn't known at all, or is known to be of this number or
-    /// vector type, where the innermost frame has so many own operands.
+    /// The fast lane of [`Stacks::is_fitting_by_order`], without that itself: whether the operand that a pop
+    /// finds after so many others isn't known at all, or is known to be of this number or vector type, where
+    /// the innermost frame has so many own operands.
     #[inline(always)]
     pub(crate) fn is_number_at<R: WasmModuleResources>(
         &self,
@@ -149,7 +154,8 @@ impl Stacks {
         }
     }
 
-    /// The same by the order of types. It looks for the operand again, so that nothing is copied where it isn't called.
+    /// Whether the operand that a pop finds after so many others fits the expected type, by the order of
+    /// types. It looks for the operand again, so that nothing is copied where it isn't called.
     #[inline(never)]
     pub(crate) fn is_fitting_by_order<R: WasmModuleResources>(
         &self,

@@ -13,9 +13,10 @@ use validate_types::{MaybeType, Refused, ValType};
 use validate_visit::{BlockType, FrameKind};
 
 impl Stacks {
-    /// Takes so many own operands of the innermost frame, which has as many, and gives one of each of these types, the
-    /// last on top. Want of memory changes nothing, and there is none where no attempt is pending and no more come than
-    /// go.
+    /// The fast lane of [`Stacks::exchange_any`]: where no attempt is pending and one operand comes at most,
+    /// it is put in place. Takes so many own operands of the innermost frame, which has as many, and gives
+    /// one of each of these types, the last on top. Want of memory changes nothing, and there is none where
+    /// no attempt is pending and no more come than go.
     #[inline(always)]
     pub fn exchange<A: Refused>(&mut self, popped: usize, pushed: &[ValType]) -> Result<(), A>
         requires { popped ≤ length (innermost_operands self.old.body.present.frames) }
@@ -58,7 +59,8 @@ impl Stacks {
         })
     }
 
-    /// [`Stacks::exchange`] with one operand that comes, of which less may be known.
+    /// The fast lane of [`Stacks::replace_any`]: where no attempt is pending, the operand is put in place. It
+    /// is [`Stacks::exchange`] with one operand that comes, of which less may be known.
     #[inline(always)]
     pub fn replace<A: Refused>(&mut self, popped: usize, ty: MaybeType) -> Result<(), A>
         requires { popped ≤ length (innermost_operands self.old.body.present.frames) }
@@ -96,7 +98,9 @@ impl Stacks {
         })
     }
 
-    /// [`Stacks::exchange`], and above what is given comes one operand more, of which less may be known.
+    /// The fast lane of [`Stacks::exchange_topped_any`]: where nothing is given but the top, it is
+    /// [`Stacks::replace`]. It is [`Stacks::exchange`], and above what is given comes one operand more, of
+    /// which less may be known.
     #[inline(always)]
     pub fn exchange_topped<A: Refused>(
         &mut self,
@@ -168,8 +172,10 @@ impl Stacks {
         })
     }
 
-    /// Takes so many own operands of the innermost frame, which has as many, and opens a frame that owns one of each of
-    /// these types, the last on top. Want of memory changes nothing.
+    /// The fast lane of [`Stacks::open_any`]: where no attempt is pending, one operand goes at most, and
+    /// nothing is given, the frame is put in place. Takes so many own operands of the innermost frame, which
+    /// has as many, and opens a frame that owns one of each of these types, the last on top. Want of memory
+    /// changes nothing.
     #[inline(always)]
     pub fn open<A: Refused>(
         &mut self,
@@ -223,9 +229,11 @@ impl Stacks {
         })
     }
 
-    /// Closes the innermost frame with its own operands, so many, and gives the next outer one an operand of each of these
-    /// types, the last on top: the locals that were first set in the frame aren't set any more. Want of memory changes nothing, and
-    /// there is none where no attempt is pending and no more come than go.
+    /// The fast lane of [`Stacks::close_any`]: where no attempt is pending, and one operand comes at most for
+    /// as many that go, what lies there passes over. Closes the innermost frame with its own operands, so
+    /// many, and gives the next outer one an operand of each of these types, the last on top: the locals that
+    /// were first set in the frame aren't set any more. Want of memory changes nothing, and there is none
+    /// where no attempt is pending and no more come than go.
     #[inline(always)]
     pub fn close<A: Refused>(&mut self, popped: usize, pushed: &[ValType]) -> Result<(), A>
         requires own { popped ≡ length (innermost_operands self.old.body.present.frames) }
@@ -272,8 +280,10 @@ impl Stacks {
         })
     }
 
-    /// Closes the innermost frame as [`Stacks::close`] does, and opens one in its place that owns an operand of each of
-    /// these types, the last on top. Want of memory changes nothing.
+    /// The fast lane of [`Stacks::reopen_any`]: where no attempt is pending, and nothing is given, the frame
+    /// is put in the place of the other. Closes the innermost frame as [`Stacks::close`] does, and opens one
+    /// in its place that owns an operand of each of these types, the last on top. Want of memory changes
+    /// nothing.
     #[inline(always)]
     pub fn reopen_with<A: Refused>(
         &mut self,

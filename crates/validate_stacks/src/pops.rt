@@ -45,7 +45,8 @@ pub(crate) fn unknown_reference<R: WasmModuleResources>(
     })
 }
 
-/// Whether nothing is expected, or this operand isn't known at all, or is the expected number or vector type.
+/// The fast lane of [`Stacks::is_fitting`]: whether nothing is expected, or this operand isn't known at all,
+/// or is the expected number or vector type.
 #[inline(always)]
 pub(crate) fn fits_at_once(found: MaybeType, expected: Option<ValType>) -> bool
     ensures { result ≡ true → FitsAtOnce found expected }
@@ -57,7 +58,7 @@ pub(crate) fn fits_at_once(found: MaybeType, expected: Option<ValType>) -> bool
     }
 }
 
-/// Whether this is twice the same number or vector type.
+/// The fast lane of [`ValType::eq`]: whether this is twice the same number or vector type.
 #[inline(always)]
 pub(crate) fn is_same_number(found: ValType, expected: ValType) -> bool
     ensures { result ≡ true → found ≡ expected }
@@ -66,7 +67,7 @@ pub(crate) fn is_same_number(found: ValType, expected: ValType) -> bool
     place < 5 && place_of(found) == place
 }
 
-/// Whether the operand is known to be of this number or vector type.
+/// The fast lane of [`MaybeType::eq`]: whether the operand is known to be of this number or vector type.
 #[inline(always)]
 pub(crate) fn is_known_number(operand: &MaybeType, expected: ValType) -> bool
     ensures { result ≡ true → operand.now ≡ Known expected }
@@ -77,7 +78,8 @@ pub(crate) fn is_known_number(operand: &MaybeType, expected: ValType) -> bool
     }
 }
 
-/// Whether the operand is known to be of this type, be it that a reference is exact in its type or without null.
+/// The fast lane of [`Stacks::is_fitting`] for a known operand: whether it is known to be of this type, be it
+/// that a reference is exact in its type or without null.
 #[inline(always)]
 pub(crate) fn is_known_as(operand: &MaybeType, expected: &ValType) -> bool
     ensures { result ≡ true → IsKnownAs operand.now expected.now }
@@ -92,7 +94,8 @@ pub(crate) fn is_known_as(operand: &MaybeType, expected: &ValType) -> bool
     }
 }
 
-/// Whether it is the expected type, or exact in that.
+/// The fast lane of [`Stacks::is_fitting`] asks this of heap types: whether it is the expected type, or exact
+/// in that.
 #[inline(always)]
 fn is_to_same(found: HeapType, expected: HeapType) -> bool
     ensures { result ≡ true → IsToSame found expected }
@@ -111,7 +114,7 @@ fn is_to_same(found: HeapType, expected: HeapType) -> bool
     }
 }
 
-/// Whether this is twice the same id.
+/// The fast lane of [`UnpackedIndex::eq`]: whether this is twice the same id.
 #[inline(always)]
 fn is_same_id(found: UnpackedIndex, expected: UnpackedIndex) -> bool
     ensures { result ≡ true → found ≡ expected }
@@ -122,7 +125,8 @@ fn is_same_id(found: UnpackedIndex, expected: UnpackedIndex) -> bool
     }
 }
 
-/// The place of a number or vector type among them, from 0; 5 for every reference.
+/// The fast lane of [`ValType::eq`] compares these: the place of a number or vector type among them, from 0;
+/// 5 for every reference.
 #[inline(always)]
 fn place_of(ty: ValType) -> u8
     ensures { result ≡ place_of ty }

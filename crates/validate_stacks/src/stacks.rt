@@ -263,8 +263,8 @@ impl Stacks {
         Ok(())
     }
 
-    /// Pushes an operand onto the innermost frame, where there is room and no attempt is pending. False,
-    /// with nothing changed, where that isn't so. It takes no memory.
+    /// The fast lane of [`Stacks::push_operand`]: pushes an operand onto the innermost frame, where there is
+    /// room and no attempt is pending. False, with nothing changed, where that isn't so. It takes no memory.
     #[inline(always)]
     pub fn push_at_once(&mut self, ty: MaybeType) -> bool
         ensures exact { MatchBool result (self.new.body ≡ body_pushed ty self.old.body) (self.new ≡ self.old) }
@@ -277,7 +277,8 @@ impl Stacks {
         true
     }
 
-    /// Puts an operand in the place of the top own one of the innermost frame. It takes no memory.
+    /// The fast lane of [`Stacks::replace_any`] for one operand: puts one in the place of the top own one of
+    /// the innermost frame, while no attempt is pending. It takes no memory.
     #[inline(always)]
     pub(crate) fn replace_operand(&mut self, ty: MaybeType)
         requires idle { self.old.body.undone ≡ None }
@@ -288,8 +289,8 @@ impl Stacks {
         self.operands.replace_top(ty);
     }
 
-    /// Takes so many own operands of the innermost frame, which has as many at least, while no attempt is pending. It
-    /// takes no memory.
+    /// The fast lane of [`Stacks::exchange_any`] where none comes: takes so many own operands of the
+    /// innermost frame, which has as many at least, while no attempt is pending. It takes no memory.
     #[inline(always)]
     pub(crate) fn drop_operands(&mut self, count: usize)
         requires idle { self.old.body.undone ≡ None }
@@ -301,8 +302,9 @@ impl Stacks {
         self.operands.truncate(all - count);
     }
 
-    /// Opens a frame with no operands of its own, where there is room and no attempt is pending. False, with
-    /// nothing changed, where that isn't so. It takes no memory.
+    /// The fast lane of [`Stacks::open_any`] over no operands: opens a frame with no operands of its own,
+    /// where there is room and no attempt is pending. False, with nothing changed, where that isn't so. It
+    /// takes no memory.
     #[inline(always)]
     pub fn open_at_once(&mut self, kind: FrameKind, block_type: BlockType) -> bool
         ensures { MatchBool result (self.new.body ≡ body_with_frame kind block_type self.old.body)
@@ -318,8 +320,9 @@ impl Stacks {
         true
     }
 
-    /// Opens a frame that takes over so many own operands of the innermost frame, where there is room and no attempt is
-    /// pending. False, with nothing changed, where that isn't so. It takes no memory.
+    /// The fast lane of [`Stacks::open_any`] over operands that stay as they are: opens a frame that takes
+    /// over so many own operands of the innermost frame, where there is room and no attempt is pending.
+    /// False, with nothing changed, where that isn't so. It takes no memory.
     #[inline(always)]
     pub(crate) fn open_over_own(
         &mut self,
@@ -341,7 +344,8 @@ impl Stacks {
         true
     }
 
-    /// Takes the top own operand of the innermost frame, and opens a frame as [`Stacks::open_at_once`] does.
+    /// The fast lane of [`Stacks::open_any`] over one operand, which goes: takes the top own operand of the
+    /// innermost frame, and opens a frame as [`Stacks::open_at_once`] does.
     #[inline(always)]
     pub(crate) fn open_over_top(&mut self, kind: FrameKind, block_type: BlockType) -> bool
         requires { innermost_operands self.old.body.present.frames ≢ [] }
@@ -360,8 +364,9 @@ impl Stacks {
         true
     }
 
-    /// Opens a frame in the place of the innermost one, which has no operands of its own: the locals that were first
-    /// set in that aren't set any more. It takes no memory.
+    /// The fast lane of [`Stacks::reopen_any`] over no operands: opens a frame in the place of the innermost
+    /// one, which has no operands of its own, while no attempt is pending. The locals that were first set in
+    /// that aren't set any more. It takes no memory.
     #[inline(always)]
     pub(crate) fn reopen(&mut self, kind: FrameKind, block_type: BlockType)
         requires idle { self.old.body.undone ≡ None }
@@ -383,7 +388,8 @@ impl Stacks {
             .put(live_frame(kind, block_type, height, init_height));
     }
 
-    /// Closes the innermost frame, whose own operands pass to the next outer one. It takes no memory.
+    /// The fast lane of [`Stacks::close_any`] over operands that stay as they are: closes the innermost
+    /// frame, whose own operands pass to the next outer one, while no attempt is pending. It takes no memory.
     #[inline(always)]
     pub(crate) fn close_over_operands(&mut self)
         requires { self.old.body.undone ≡ None }
@@ -421,7 +427,8 @@ impl Stacks {
         }
     }
 
-    /// The own operand of the innermost frame at this depth, the top at 0, where it has so many.
+    /// The fast lane of [`Stacks::operand_found`] for an own operand: that of the innermost frame at this
+    /// depth, the top at 0, where it has so many.
     #[inline(always)]
     pub(crate) fn own_operand(&self, depth: usize) -> Option<&MaybeType>
         requires { depth < length (innermost_operands self.now.body.present.frames) }
@@ -443,7 +450,8 @@ impl Stacks {
         self.operands.newest(count)
     }
 
-    /// What a pop would find below so many others, where the innermost frame has so many own operands.
+    /// The fast lane of [`Stacks::found_at`] where it is known how many own operands there are: what a pop
+    /// would find below so many others, where the innermost frame has so many own operands.
     #[inline(always)]
     pub(crate) fn operand_found_of(&self, own: usize, depth: usize) -> Option<MaybeType>
         requires { own ≡ length (innermost_operands self.now.body.present.frames) }
@@ -473,7 +481,8 @@ impl Stacks {
         self.control.replace_top(dead);
     }
 
-    /// Whether the innermost frame has so many own operands at least.
+    /// The fast lane of [`Stacks::own_len`] against a count: whether the innermost frame has so many own
+    /// operands at least.
     #[inline(always)]
     pub(crate) fn has_own(&self, count: usize) -> bool
         ensures { result ≡ true → count ≤ length (innermost_operands self.now.body.present.frames) }

@@ -62,7 +62,8 @@ fn allowed_types(access: FieldAccess) -> &'static str {
         FieldAccess::Whole(Update::Value(Exchange::Cmpxchg)) => {
             "`i32`, `i64` and subtypes of `eqref`"
         }
-        _ => "`i32`, `i64` and subtypes of `anyref`",
+        FieldAccess::Whole(Update::Value(Exchange::Get | Exchange::Set | Exchange::Xchg))
+        | FieldAccess::GetPacked(_) => "`i32`, `i64` and subtypes of `anyref`",
     }
 }
 
@@ -70,15 +71,14 @@ fn allowed_types(access: FieldAccess) -> &'static str {
 #[cold]
 #[inline(never)]
 fn global_not_allowed<A: Refused>(access: Update) -> A {
-    let access = FieldAccess::Whole(access);
     let name = match access {
-        FieldAccess::Whole(Update::Rmw(_)) => "rmw.*",
-        _ => name_of(access),
+        Update::Rmw(_) => "rmw.*",
+        Update::Value(_) => name_of(FieldAccess::Whole(access)),
     };
     A::of(Refusal::NotAllowed {
         place: "global",
         name,
-        types: allowed_types(access),
+        types: allowed_types(FieldAccess::Whole(access)),
     })
 }
 
@@ -88,7 +88,7 @@ fn global_not_allowed<A: Refused>(access: Update) -> A {
 fn table_not_allowed<A: Refused>(access: Exchange) -> A {
     let types = match access {
         Exchange::Cmpxchg => "subtypes of `eqref`",
-        _ => "subtypes of `anyref`",
+        Exchange::Get | Exchange::Set | Exchange::Xchg => "subtypes of `anyref`",
     };
     A::of(Refusal::NotAllowed {
         place: "table",
@@ -109,7 +109,10 @@ fn field_not_allowed<A: Refused>(aggregate: Aggregate, access: FieldAccess) -> A
         FieldAccess::Whole(Update::Value(Exchange::Set)) => {
             "`i8`, `i16`, `i32`, `i64` and subtypes of `anyref`"
         }
-        _ => allowed_types(access),
+        FieldAccess::Whole(
+            Update::Value(Exchange::Get | Exchange::Xchg | Exchange::Cmpxchg) | Update::Rmw(_),
+        )
+        | FieldAccess::GetPacked(_) => allowed_types(access),
     };
     A::of(Refusal::NotAllowed {
         place,

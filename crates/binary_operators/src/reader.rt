@@ -366,7 +366,7 @@ impl<'a> BinaryReader<'a> {
 
     /// Reads an integer of so many bits, of any number of bytes, and answers it with half of 2 to their power
     /// added.
-    #[inline(never)]
+    #[inline(always)]
     fn read_long_biased(&mut self, bits: u32) -> Result<u64, ReadError>
         requires some { 0 < bits }
         requires within { bits ≤ 64 }

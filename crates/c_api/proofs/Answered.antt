@@ -1,12 +1,14 @@
 -- What a status says of an answer.
-use Rattle.std.proofs.Common.{◌≡◌, ◌≢◌, ◌≤◌, ℕ, List, Result, Ok, Err, IfOk, IfErr, OnErr, inl, inr, ap, ◌∙◌, sym, refl, subst, arith}
+use Rattle.std.proofs.Common.{◌≡◌, ◌≢◌, ◌≤◌, ℕ, List, Result, Ok, Err, IfOk, IfErr, OnOk, OnErr, inl, inr, ap, ◌∙◌, sym, refl, subst, arith}
 use Rattle.std.specs.Prelude.{◌⊎◌, MatchResult}
 use Rattle.module_check.specs.Verdicts.{status_of}
 use Rattle.module_check.specs.declared.verdict.Verdict.{Verdict}
 use Rattle.module_check.specs.declared.verdict.Verdict.TheVariants.{Accepted, Refused, Malformed, NotCovered, OutOfMemory}
 use Rattle.validate_func.specs.Functions.{Fails}
-use Rattle.c_api.specs.FunctionCalls.{OpAnswer, TryAnswer}
+use Rattle.c_api.specs.FunctionCalls.{OpAnswer}
 use Rattle.c_api.specs.Functions.{InProgress, Takes, CannotTake}
+use Rattle.c_api.specs.declared.on_refusal.OnRefusal.{OnRefusal}
+use Rattle.c_api.specs.declared.on_refusal.OnRefusal.TheVariants.{Fail, LeaveNoTrace}
 
 -- the status of a verdict that isn't acceptance, and of one at all
 not_accepted : (v : Verdict) → v ≢ Accepted → status_of v ≡ 0 → ⊥
@@ -68,50 +70,37 @@ known : (r : Result ℕ Verdict) (s n k : ℕ) → Tells r s n k → s ≤ 4
 known (Ok c) s n k t = omega (arith, t.0)
 known (Err v) s n k t = omega (arith, t.0, at_most_four v)
 
-module _ (bytes : List ℕ) (offset n s : ℕ) (f g : InProgress) where
+module _ (on_refusal : OnRefusal) (bytes : List ℕ) (offset n s : ℕ) (f g : InProgress) where
   -- an operator that is taken
-  pub took : s ≡ 0 → Takes bytes offset n f g → OpAnswer bytes offset n s f g
+  pub took : s ≡ 0 → Takes bytes offset n f g → OpAnswer on_refusal bytes offset n s f g
   took z t = record {
     accepted = λ _. t;
     refused = λ d. absurd (not_zero s z d);
-    failed = λ d. absurd (not_other s 0 z (λ e. omega (arith, e)) (λ e. omega (arith, e)) (λ e. omega (arith, e)) d);
+    failed = λ _ d. absurd (not_other s 0 z (λ e. omega (arith, e)) (λ e. omega (arith, e)) (λ e. omega (arith, e)) d);
     uncovered = λ d. absurd (omega (arith, z, d));
-    none_taken = λ d. absurd (d z);
-    known = omega (arith, z);
-  }
-
-  pub took_at_once : s ≡ 0 → Takes bytes offset n f g → TryAnswer bytes offset n s f g
-  took_at_once z t = record {
-    accepted = λ _. t;
-    refused = λ d. absurd (not_zero s z d);
-    back = λ d. absurd (d z);
+    back = λ _ d. absurd (d z);
     none_taken = λ d. absurd (d z);
     known = omega (arith, z);
   }
 
   module _ (r : Result ℕ Verdict) (t : Tells r s n 0) (taken : IfOk r (λ count. Takes bytes offset count f g)) (refuses : IfErr r (λ v. v ≢ Accepted)) (cannot : IfErr r (λ v. v ≢ OutOfMemory → CannotTake bytes f)) where
     -- what a call of `op` answers
-    pub op_answer : IfErr r (λ v. ((at : ℕ) → v ≢ NotCovered at) → Fails f g) → IfErr r (λ v. (at : ℕ) → v ≡ NotCovered at → g ≡ f) → OpAnswer bytes offset n s f g
-    op_answer fails same = record {
+    pub op_answer : (on_refusal ≡ Fail → IfErr r (λ v. ((at : ℕ) → v ≢ NotCovered at) → Fails f g)) → IfErr r (λ v. (at : ℕ) → v ≡ NotCovered at → g ≡ f) → (on_refusal ≡ LeaveNoTrace → OnErr r (g ≡ f)) → OpAnswer on_refusal bytes offset n s f g
+    op_answer fails same takes_back = record {
       accepted = accepted r s n 0 (λ count. Takes bytes offset count f g) t taken refuses;
       refused = refused r s n 0 (CannotTake bytes f) t cannot;
-      failed = failed r s n 0 (Fails f g) t fails;
+      failed = λ is. failed r s n 0 (Fails f g) t (fails is);
       uncovered = uncovered r s n 0 (g ≡ f) t same;
-      none_taken = none_taken r s n 0 t;
-      known = known r s n 0 t;
-    }
-
-    -- and one of `try_op`
-    pub try_answer : OnErr r (g ≡ f) → TryAnswer bytes offset n s f g
-    try_answer same = record {
-      accepted = accepted r s n 0 (λ count. Takes bytes offset count f g) t taken refuses;
-      refused = refused r s n 0 (CannotTake bytes f) t cannot;
-      back = back r s n 0 (g ≡ f) t same;
+      back = λ is. back r s n 0 (g ≡ f) t (takes_back is);
       none_taken = none_taken r s n 0 t;
       known = known r s n 0 t;
     }
 
 -- the same without bytes
+pub done : (r : Result (Unit {0}) Verdict) (s : ℕ) (P : Type 0) → MatchResult r (λ _. s ≡ 0) (λ v. s ≡ status_of v) → OnOk r P → IfErr r (λ v. v ≢ Accepted) → s ≡ 0 → P
+done (Ok x) s P t p h z = p
+done (Err v) s P t p h z = absurd (not_accepted v h (sym t ∙ z))
+
 pub undone : (r : Result (Unit {0}) Verdict) (s : ℕ) (P : Type 0) → MatchResult r (λ _. s ≡ 0) (λ v. s ≡ status_of v) → OnErr r P → s ≢ 0 → P
 undone (Ok x) s P t h d = absurd (d t)
 undone (Err v) s P t h d = h

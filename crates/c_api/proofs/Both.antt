@@ -1,27 +1,31 @@
 -- What holds of the functions of two handles, if there is one in the first.
-use Rattle.std.proofs.Common.{◌≡◌, ◌≤◌, ◌∙◌, ℕ, None, Some, ap, sym, subst, arith}
-use Rattle.c_api.specs.FunctionCalls.{OnFunction, OfBoth, Becomes, HasNoFunction}
-use Rattle.c_api.specs.Functions.{InProgress}
+use Rattle.std.proofs.Common.{◌≡◌, ◌≢◌, ◌≤◌, ℕ, List, None, Some, inl, inr, ap, sym, subst, arith}
+use Rattle.std.specs.Prelude.{◌⊎◌, ◌↔◌}
+use Rattle.validate_func.specs.Functions.{Fails}
+use Rattle.c_api.specs.FunctionCalls.{OnFunction, OfBoth, Becomes, HasNoFunction, OpAnswer, HandleAnswer}
+use Rattle.c_api.specs.Functions.{InProgress, Takes, CannotTake}
 use Rattle.c_api.specs.Handle.{MaybeKept}
 use Rattle.c_api.specs.declared.kept.Kept.{Kept}
 use Rattle.c_api.specs.declared.kept.Kept.TheVariants.{Module, Function}
+use Rattle.c_api.specs.declared.on_refusal.OnRefusal.{OnRefusal}
+use Rattle.c_api.specs.declared.on_refusal.OnRefusal.TheVariants.{Fail, LeaveNoTrace}
 
 module _ (P : InProgress → InProgress → Type 0) where
-  pub becomes : (o p : MaybeKept) (Q : InProgress → InProgress → Type 0) → OfBoth o p P → (HasNoFunction o → ⊥) → ((f g : InProgress) → P f g → Q f g) → Becomes o p Q
+  becomes : (o p : MaybeKept) (Q : InProgress → InProgress → Type 0) → OfBoth o p P → (HasNoFunction o → ⊥) → ((f g : InProgress) → P f g → Q f g) → Becomes o p Q
   becomes None p Q a none q = absurd (none tt)
   becomes (Some (Module s)) p Q a none q = absurd (none tt)
   becomes (Some (Function f)) None Q a none q = absurd a
   becomes (Some (Function f)) (Some (Module s)) Q a none q = absurd a
   becomes (Some (Function f)) (Some (Function g)) Q a none q = q f g a
 
-  pub before : (o p : MaybeKept) (Q : InProgress → Type 0) → OfBoth o p P → (HasNoFunction o → ⊥) → ((f g : InProgress) → P f g → Q f) → OnFunction o Q
+  before : (o p : MaybeKept) (Q : InProgress → Type 0) → OfBoth o p P → (HasNoFunction o → ⊥) → ((f g : InProgress) → P f g → Q f) → OnFunction o Q
   before None p Q a none q = absurd (none tt)
   before (Some (Module s)) p Q a none q = absurd (none tt)
   before (Some (Function f)) None Q a none q = absurd a
   before (Some (Function f)) (Some (Module s)) Q a none q = absurd a
   before (Some (Function f)) (Some (Function g)) Q a none q = q f g a
 
-  pub same : (o p : MaybeKept) → OfBoth o p P → (HasNoFunction o → p ≡ o) → ((f g : InProgress) → P f g → g ≡ f) → p ≡ o
+  same : (o p : MaybeKept) → OfBoth o p P → (HasNoFunction o → p ≡ o) → ((f g : InProgress) → P f g → g ≡ f) → p ≡ o
   same None p a none q = none tt
   same (Some (Module s)) p a none q = none tt
   same (Some (Function f)) None a none q = absurd a
@@ -29,7 +33,7 @@ module _ (P : InProgress → InProgress → Type 0) where
   same (Some (Function f)) (Some (Function g)) a none q = ap (λ (x : InProgress). Some (Function x)) (q f g a)
 
   -- what follows of both, or of there being none
-  pub follows : (o p : MaybeKept) (Q : Type 0) → OfBoth o p P → (HasNoFunction o → Q) → ((f g : InProgress) → P f g → Q) → Q
+  follows : (o p : MaybeKept) (Q : Type 0) → OfBoth o p P → (HasNoFunction o → Q) → ((f g : InProgress) → P f g → Q) → Q
   follows None p Q a none q = none tt
   follows (Some (Module s)) p Q a none q = none tt
   follows (Some (Function f)) None Q a none q = absurd a
@@ -37,19 +41,59 @@ module _ (P : InProgress → InProgress → Type 0) where
   follows (Some (Function f)) (Some (Function g)) Q a none q = q f g a
 
   -- a status above those of an answer says that there is no function
-  pub none_there : (o p : MaybeKept) (s : ℕ) → OfBoth o p P → ((f g : InProgress) → P f g → s ≤ 4) → s ≡ 6 → HasNoFunction o
+  none_there : (o p : MaybeKept) (s : ℕ) → OfBoth o p P → ((f g : InProgress) → P f g → s ≤ 4) → s ≡ 6 → HasNoFunction o
   none_there None p s a few six = tt
   none_there (Some (Module x)) p s a few six = tt
   none_there (Some (Function f)) None s a few six = absurd a
   none_there (Some (Function f)) (Some (Module x)) s a few six = absurd a
   none_there (Some (Function f)) (Some (Function g)) s a few six = absurd (omega (arith, few f g a, six))
 
-  -- what was taken out of a handle, and put back into it
-  pub carried : (o p : MaybeKept) (x k l : Kept) → o ≡ Some k → p ≡ Some l → x ≡ k → OfBoth (Some x) (Some l) P → OfBoth o p P
-  carried o p x k l took put is a = subst (λ q. OfBoth q p P) (sym took) (subst (λ q. OfBoth (Some k) q P) (sym put) (subst (λ y. OfBoth (Some y) (Some l) P) is a))
+-- what a call on a handle answers of an operator
+module _ {on_refusal : OnRefusal} {bytes : List ℕ} {offset taken s : ℕ} {o p : MaybeKept} (x : HandleAnswer on_refusal bytes offset taken s o p) where
+  abbrev Told : InProgress → InProgress → Type 0
+  Told = OpAnswer on_refusal bytes offset taken s
 
--- the same where there is no function
-pub carried_none : (o p : MaybeKept) (x k l : Kept) (Q R : Type 0) → o ≡ Some k → p ≡ Some l → x ≡ k → (HasNoFunction (Some x) → Q × (l ≡ x) × R) → HasNoFunction o → Q × (p ≡ o) × R
-carried_none o p x k l Q R took put is n h =
-    let m = n (subst (λ y. HasNoFunction (Some y)) (sym is) (subst HasNoFunction took h)) in
-    (m.0, put ∙ (ap (λ (y : Kept). Some y) (m.1 ∙ is) ∙ sym took), m.2)
+  pub accepted : s ≡ 0 → Becomes o p (Takes bytes offset taken)
+  accepted z = becomes Told o p (Takes bytes offset taken) x.of_function (λ h. omega (arith, z, (x.of_none h).0)) (λ f g a. a.accepted z)
+
+  pub refused : (s ≡ 1) ⊎ (s ≡ 2) → OnFunction o (CannotTake bytes)
+  refused d =
+      before Told o p (CannotTake bytes) x.of_function (λ h. elim d [ inl e ↦ omega (arith, e, (x.of_none h).0) | inr e ↦ omega (arith, e, (x.of_none h).0) ]) (λ f g a. a.refused d)
+
+  pub failed : on_refusal ≡ Fail → (s ≡ 1) ⊎ ((s ≡ 2) ⊎ (s ≡ 3)) → Becomes o p Fails
+  failed is d =
+      becomes Told o p Fails x.of_function (λ h. elim d [ inl e ↦ omega (arith, e, (x.of_none h).0) | inr r ↦ elim r [ inl e ↦ omega (arith, e, (x.of_none h).0) | inr e ↦ omega (arith, e, (x.of_none h).0) ] ]) (λ f g a. a.failed is d)
+
+  pub unchanged : (s ≡ 4) ⊎ (s ≡ 6) → p ≡ o
+  unchanged d =
+      same Told o p x.of_function (λ h. (x.of_none h).1) (λ f g a. elim d [ inl e ↦ a.uncovered e | inr e ↦ absurd (omega (arith, e, a.known)) ])
+
+  pub back : on_refusal ≡ LeaveNoTrace → s ≢ 0 → p ≡ o
+  back is d = same Told o p x.of_function (λ h. (x.of_none h).1) (λ f g a. a.back is d)
+
+  pub none : s ≡ 6 ↔ HasNoFunction o
+  none = (λ z. none_there Told o p s x.of_function (λ f g a. a.known) z, λ h. (x.of_none h).0)
+
+  pub known : (s ≤ 4) ⊎ (s ≡ 6)
+  known = follows Told o p ((s ≤ 4) ⊎ (s ≡ 6)) x.of_function (λ h. inr ((x.of_none h).0)) (λ f g a. inl a.known)
+
+  pub none_taken : s ≢ 0 → taken ≡ 0
+  none_taken d = follows Told o p (taken ≡ 0) x.of_function (λ h. (x.of_none h).2) (λ f g a. a.none_taken d)
+
+module _ (on_refusal : OnRefusal) (bytes : List ℕ) (offset taken : ℕ) where
+  -- the answer where a handle has nothing
+  pub none_kept : (t : ℕ) (o p : MaybeKept) → o ≡ None → p ≡ None → t ≡ 6 → taken ≡ 0 → HandleAnswer on_refusal bytes offset taken t o p
+  none_kept t o p took left told none =
+      subst (λ (q : MaybeKept). HandleAnswer on_refusal bytes offset taken t q p) (sym took) (record { of_function = tt; of_none = λ _. (told, left, none) })
+
+  -- that of what was taken out of a handle, and put back into it
+  pub carried : (s t : ℕ) (o p : MaybeKept) (x k l : Kept) → o ≡ Some k → p ≡ Some l → x ≡ k → t ≡ s → OfBoth (Some x) (Some l) (OpAnswer on_refusal bytes offset taken s) → (HasNoFunction (Some x) → (s ≡ 6) × (l ≡ x) × (taken ≡ 0)) → HandleAnswer on_refusal bytes offset taken t o p
+  carried s t o p x k l took put is told answer none =
+      let kept : HandleAnswer on_refusal bytes offset taken s (Some x) (Some l) = record {
+        of_function = answer;
+        of_none = λ h. let m = none h in (m.0, ap (λ (y : Kept). Some y) m.1, m.2);
+      } in
+      subst (λ (q : MaybeKept). HandleAnswer on_refusal bytes offset taken t q p) (sym took)
+      (subst (λ (q : MaybeKept). HandleAnswer on_refusal bytes offset taken t (Some k) q) (sym put)
+      (subst (λ (y : Kept). HandleAnswer on_refusal bytes offset taken t (Some y) (Some l)) is
+      (subst (λ (r : ℕ). HandleAnswer on_refusal bytes offset taken r (Some x) (Some l)) (sym told) kept)))

@@ -1,5 +1,5 @@
 -- A function in progress that takes no operator.
-use Rattle.std.proofs.Common.{◌≡◌, ℕ, Bool, true, false, List, [], length, Some, Result, Ok, Err, OnOk, OnErr, IfErr, sym, ap, ◌∙◌, subst}
+use Rattle.std.proofs.Common.{◌≡◌, ℕ, Bool, true, false, List, [], length, Some, Result, Ok, Err, OnOk, OnErr, refl, sym, ap, ◌∙◌, subst}
 use Rattle.module_check.proofs.Begun.{some_same}
 use Rattle.validate_body.specs.Runs.{body_before}
 use Rattle.validate_body.specs.Start.{DefinesLocals}
@@ -13,10 +13,12 @@ use Rattle.validate_types.specs.declared.types.ValType.{ValType}
 use Rattle.validate_visit.specs.declared.frame.Frame.{Frame as FlatFrame}
 use Rattle.validate_visit.specs.declared.op.Op.{Op}
 use Rattle.validation_rules.specs.Static.{start}
+use Rattle.c_api.specs.declared.on_refusal.OnRefusal.{OnRefusal}
+use Rattle.c_api.specs.declared.on_refusal.OnRefusal.TheVariants.{Fail, LeaveNoTrace}
 
 module _ (md : ModuleContext) (first : FlatFrame) (v w : BodyState) (ops more : List (Op × ℕ)) (b c : Bool) (s : IsSound md first v ops b) where
   -- it is sound as one that has failed
-  pub sound_failed : IsKept v w → IsValidBody md w → more ≡ ops → c ≡ true → IsSound md first w more c
+  sound_failed : IsKept v w → IsValidBody md w → more ≡ ops → c ≡ true → IsSound md first w more c
   sound_failed kept valid same is = let same_start : state_from first w ≡ state_from first v = ap (state_from first) kept in record {
     idle = ap (λ (x : BodyState). x.undone) kept ∙ s.idle;
     valid = valid;
@@ -27,6 +29,24 @@ module _ (md : ModuleContext) (first : FlatFrame) (v w : BodyState) (ops more : 
     where
       not_both : true ≡ false → ⊥
       not_both e = absurd cc
+
+  -- it is sound, whatever its mark, where nothing is changed
+  pub sound_unchanged : b ≡ false → w ≡ v → more ≡ ops → IsSound md first w more c
+  sound_unchanged none_failed same_state same_list =
+      let marked : IsSound md first v ops c = record {
+        idle = s.idle;
+        valid = s.valid;
+        first_frame = s.first_frame;
+        starts = s.starts;
+        run = λ _. s.run none_failed;
+      } in
+      subst (λ (x : BodyState). IsSound md first x more c) (sym same_state)
+      (subst (λ (l : List (Op × ℕ)). IsSound md first v l c) (sym same_list) marked)
+
+  -- and where an operator is refused
+  pub sound_refused : (on_refusal : OnRefusal) → b ≡ false → IsKept v w → IsValidBody md w → more ≡ ops → (on_refusal ≡ Fail → c ≡ true) → (on_refusal ≡ LeaveNoTrace → w ≡ v) → IsSound md first w more c
+  sound_refused Fail none_failed kept valid same fails back = sound_failed kept valid same (fails refl)
+  sound_refused LeaveNoTrace none_failed kept valid same fails back = sound_unchanged none_failed (back refl) same
 
   -- before any operator it is where it started
   at_start : ops ≡ [] → b ≡ false → v.present ≡ start first.block_type
@@ -56,8 +76,3 @@ module _ (md : ModuleContext) (first : FlatFrame) (v w : BodyState) (ops more : 
 pub same_present : (md : ModuleContext) (count : ℕ) (ty : ValType) (v w : BodyState) (r : Result (Unit {0}) ErrorValue) → OnOk r (DefinesLocals md count ty v w) → OnErr r (w ≡ v) → w.present ≡ v.present
 same_present md count ty v w (Ok x) d e = ap (λ (x : BodyState). x.present) d.defines
 same_present md count ty v w (Err x) d e = ap (λ (x : BodyState). x.present) e
-
--- what follows of each error follows of the one that there is
-pub if_err : {T E : Type 0} → (r : Result T E) (P Q : E → Type 0) → ((e : E) → P e → Q e) → IfErr r P → IfErr r Q
-if_err (Ok x) P Q f h = h
-if_err (Err e) P Q f h = f e h

@@ -1,10 +1,10 @@
 -- What the calls on a module say (the crate's own).
-use Rattle.std.specs.Prelude.{◌≡◌, ℕ, ◌-◌, ◌^◌, ◌≤◌, List, None, Some}
-use Rattle.std.specs.Int.RustNames.{bit_and}
+use Rattle.std.specs.Prelude.{◌≡◌, ℕ, ◌≤◌, List, None, Some}
 use Rattle.module_check.specs.Loaded.{bytes_of, body_at, features_of, IsValid}
 use Rattle.module_check.specs.declared.loaded.LoadedModule.{LoadedModule}
 use Rattle.module_check.specs.Unbodied.{BeginsModule, declared_by, features_of as features_alone}
 use Rattle.module_check.specs.declared.unbodied.LoadedDeclarations.{LoadedDeclarations}
+use Rattle.module_rules.specs.Features.{of_bits}
 use Rattle.c_api.specs.Handle.{MaybeKept}
 use Rattle.c_api.specs.Modules.{module_of}
 use Rattle.c_api.specs.declared.kept.Kept.TheVariants.{Module, Function}
@@ -63,14 +63,10 @@ abbrev pub IsDeclared : HeldModule → Type 0
 IsDeclared (Whole m) = ⊥
 IsDeclared (Declared d) = Unit {0}
 
--- the bits that stand for proposals
-abbrev pub all_features : ℕ
-all_features = 2 ^ 26 - 1
-
 -- the module was read of these bytes, under the proposals that these bits stand for
 pub record IsLoadedFrom (bytes : List ℕ) (bits : ℕ) (m : LoadedModule) : Type 0 where
   pub has_bytes : bytes_of m ≡ bytes
-  pub has_features : (features_of m).0 ≡ bit_and bits all_features
+  pub has_features : features_of m ≡ of_bits bits
 
 -- a module was read of these bytes, and is valid under the proposals that these bits stand for
 pub record IsValidModuleOf (bytes : List ℕ) (bits : ℕ) : Type 0 where
@@ -81,7 +77,7 @@ pub record IsValidModuleOf (bytes : List ℕ) (bits : ℕ) : Type 0 where
 -- what was declared was read of these bytes, under the proposals that these bits stand for
 pub record AreDeclaredFrom (bytes : List ℕ) (bits : ℕ) (d : LoadedDeclarations) : Type 0 where
   pub begin_module : BeginsModule bytes (declared_by d)
-  pub have_features : (features_alone d).0 ≡ bit_and bits all_features
+  pub have_features : features_alone d ≡ of_bits bits
 
 -- it is what a module declares without bodies, and this holds of it
 abbrev pub OnDeclared : HeldModule → (LoadedDeclarations → Type 0) → Type 0

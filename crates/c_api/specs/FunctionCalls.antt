@@ -4,6 +4,8 @@ use Rattle.validate_func.specs.Functions.{Fails}
 use Rattle.c_api.specs.Functions.{InProgress, Takes, CannotTake}
 use Rattle.c_api.specs.Handle.{MaybeKept}
 use Rattle.c_api.specs.declared.kept.Kept.TheVariants.{Module, Function}
+use Rattle.c_api.specs.declared.on_refusal.OnRefusal.{OnRefusal}
+use Rattle.c_api.specs.declared.on_refusal.OnRefusal.TheVariants.{Fail, LeaveNoTrace}
 
 -- there is a function, and this holds of it
 abbrev pub OnFunction : MaybeKept → (InProgress → Type 0) → Type 0
@@ -32,18 +34,18 @@ abbrev pub OfBoth : MaybeKept → MaybeKept → (InProgress → InProgress → T
 OfBoth f g p = OfFunction f (λ x. OnFunction g (λ y. p x y))
 
 -- what a status says of an operator, and how many bytes were taken
-pub record OpAnswer (bytes : List ℕ) (offset taken status : ℕ) (f g : InProgress) : Type 0 where
+pub record OpAnswer
+    (on_refusal : OnRefusal) (bytes : List ℕ) (offset taken status : ℕ) (f g : InProgress) : Type 0 where
   pub accepted : status ≡ 0 → Takes bytes offset taken f g
   pub refused : (status ≡ 1) ⊎ (status ≡ 2) → CannotTake bytes f
-  pub failed : (status ≡ 1) ⊎ (status ≡ 2) ⊎ (status ≡ 3) → Fails f g
+  pub failed : on_refusal ≡ Fail → (status ≡ 1) ⊎ (status ≡ 2) ⊎ (status ≡ 3) → Fails f g
   pub uncovered : status ≡ 4 → g ≡ f
+  pub back : on_refusal ≡ LeaveNoTrace → status ≢ 0 → g ≡ f
   pub none_taken : status ≢ 0 → taken ≡ 0
   pub known : status ≤ 4
 
--- the same of one that is attempted
-pub record TryAnswer (bytes : List ℕ) (offset taken status : ℕ) (f g : InProgress) : Type 0 where
-  pub accepted : status ≡ 0 → Takes bytes offset taken f g
-  pub refused : (status ≡ 1) ⊎ (status ≡ 2) → CannotTake bytes f
-  pub back : status ≢ 0 → g ≡ f
-  pub none_taken : status ≢ 0 → taken ≡ 0
-  pub known : status ≤ 4
+-- the same of a handle, which may have no function
+pub record HandleAnswer
+    (on_refusal : OnRefusal) (bytes : List ℕ) (offset taken status : ℕ) (o p : MaybeKept) : Type 0 where
+  pub of_function : OfBoth o p (OpAnswer on_refusal bytes offset taken status)
+  pub of_none : HasNoFunction o → (status ≡ 6) × (p ≡ o) × (taken ≡ 0)

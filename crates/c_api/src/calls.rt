@@ -1,8 +1,9 @@
 //! The calls of C on a module.
 
 ghost use Rattle.std.specs.Prelude.{◌≡◌, ◌≢◌, ◌⊎◌, ◌≤◌, ◌<◌, ◌-◌, ◌^◌, ◌↔◌, length, min, true, false, None, Some, IsOk, IfOk, IfErr, IfSome};
+ghost use Rattle.module_check.specs.Items.{item_count};
 ghost use Rattle.module_check.specs.Loaded.{IsAcceptedFunction, IsAcceptedModule, IsSafeFunction, IsValid};
-ghost use Rattle.module_check.specs.Verdicts.{IsConsistent, Reports, SaysNo};
+ghost use Rattle.module_check.specs.Verdicts.{IsConsistent, Reports, SaysNo, total};
 ghost use Rattle.module_check.specs.declared.verdict.Item.TheVariants.{Function};
 ghost use Rattle.module_check.specs.declared.verdict.Verdict.TheVariants.{Accepted};
 ghost use Rattle.c_api.specs.Calls.{OnWhole, OfWhole, OnHeld, OnModule, OfModule, OnDeclared, HaveTheSame};
@@ -23,7 +24,6 @@ use module_check::{
 };
 use std::alloc::Global;
 use std::sync::Arc;
-use validate_types::Flags;
 
 /// The status of a verdict.
 pub(crate) fn status_of(verdict: &ModuleVerdict) -> u32
@@ -38,18 +38,7 @@ fn read<'a>(alloc: Global, bytes: &'a [u8], features: u32) -> Result<LoadedModul
     ensures loaded { IfOk result (IsLoadedFrom bytes.now features) }
     ensures refused { IfErr result (λ verdict. verdict ≢ Accepted) }
 {
-    LoadedModule::new(alloc, bytes, ModuleFeatures::from_bits_truncate(features))
-}
-
-/// Checks each body and each constant expression of a module.
-fn check_all(alloc: Global, module: &LoadedModule<'_>, text: &mut [u8], out: &mut ModuleVerdict)
-    requires { IsConsistent (length text.old) out.old }
-    ensures consistent { IsConsistent (length text.new) out.new }
-    ensures valid { out.new.status ≡ 0 → IsValid «module».now }
-    ensures refused { SaysNo out.new.status → SaysNo out.old.status ⊎ ¬ IsAcceptedModule «module».now }
-    ensures known { out.old.status ≤ 4 → out.new.status ≤ 4 }
-{
-    check_module(module, &mut BodyBuffers::new(alloc), text, out);
+    LoadedModule::new(alloc, bytes, ModuleFeatures::of_bits(features))
 }
 
 /// Checks a module that was read, or notes why it wasn't.
@@ -67,7 +56,7 @@ fn check_read(
     ensures known { out.old.status ≤ 4 → out.new.status ≤ 4 }
 {
     match read {
-        Ok(module) => check_all(alloc, module, text, out),
+        Ok(module) => check_module(module, &mut BodyBuffers::new(alloc), text, out),
         Err(verdict) => out.note(verdict, None, text),
     }
 }
@@ -181,7 +170,7 @@ fn read_declarations(
     ensures declared { IfOk result (AreDeclaredFrom bytes.now features) }
     ensures refused { IfErr result (λ verdict. verdict ≢ Accepted) }
 {
-    LoadedDeclarations::new(alloc, bytes, ModuleFeatures::from_bits_truncate(features))
+    LoadedDeclarations::new(alloc, bytes, ModuleFeatures::of_bits(features))
 }
 
 /// Puts a module into a handle. Answers whether there was memory for it; else the handle stays as it was.
@@ -406,11 +395,15 @@ fn check_all_held(alloc: Global, held: &HeldModule, text: &mut [u8], out: &mut M
     ensures valid { out.new.status ≡ 0 → OnWhole held.now IsValid }
     ensures refused { (out.new.status ≡ 1) ⊎ (out.new.status ≡ 2)
         → OnWhole held.now (λ m. ¬ IsAcceptedModule m) }
+    ensures counted { out.new.status ≢ 3 → total out.old ≡ 0 → OfWhole held.now (λ m.
+        total out.new ≡ item_count m) }
     ensures missing { out.new.status ≡ 5 ↔ IsDeclared held.now }
     ensures known { out.new.status ≤ 5 }
 {
     match held {
-        HeldModule::Whole(loaded) => check_all(alloc, loaded, text, out),
+        HeldModule::Whole(loaded) => {
+            check_module(loaded, &mut BodyBuffers::new(alloc), text, out);
+        }
         HeldModule::Declared(_) => report_no_body(None, text, out),
     }
 }
@@ -423,6 +416,8 @@ fn check_all_kept(alloc: Global, kept: &Kept, text: &mut [u8], out: &mut ModuleV
     ensures valid { out.new.status ≡ 0 → OnModule (Some kept.now) IsValid }
     ensures refused { (out.new.status ≡ 1) ⊎ (out.new.status ≡ 2)
         → OnModule (Some kept.now) (λ m. ¬ IsAcceptedModule m) }
+    ensures counted { out.new.status ≢ 3 → total out.old ≡ 0 → OfModule (Some kept.now) (λ m.
+        total out.new ≡ item_count m) }
     ensures missing { out.new.status ≡ 5 ↔ OnHeld (Some kept.now) IsDeclared }
     ensures none { out.new.status ≡ 6 ↔ HasNoModule (Some kept.now) }
     ensures known { out.new.status ≤ 6 }
@@ -516,8 +511,8 @@ pub fn validate_function(
     status_of(out)
 }
 
-/// Checks each body and each constant expression. Where the status is 0, the module is valid; where it is 1 or 2, one of
-/// them isn't accepted.
+/// Checks each body and each constant expression. Where the status is 0, the module is valid; where it is 1
+/// or 2, one of them isn't accepted. Where it is at most 4, but not 3, each of them is counted.
 pub fn validate_module(
     alloc: Global,
     handle: &mut Handle,
@@ -529,6 +524,7 @@ pub fn validate_module(
     ensures valid { result ≡ 0 → OnModule handle.old.held IsValid }
     ensures refused { (result ≡ 1) ⊎ (result ≡ 2)
         → OnModule handle.old.held (λ m. ¬ IsAcceptedModule m) }
+    ensures counted { result ≢ 3 → OfModule handle.old.held (λ m. total out.new ≡ item_count m) }
     ensures missing { result ≡ 5 ↔ OnHeld handle.old.held IsDeclared }
     ensures none { result ≡ 6 ↔ HasNoModule handle.old.held }
     ensures known { result ≤ 6 }

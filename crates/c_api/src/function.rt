@@ -1,7 +1,6 @@
 //! A function that is validated operator by operator, over a module that it keeps.
 
 ghost use Rattle.std.specs.Prelude.{◌≡◌, ◌≢◌, ◌↔◌, ℕ, true, false, [], Some, None, length, slice_get, option_map, IsOk, IsSome, OnOk, OnErr, IfOk, IfErr, IfSome};
-ghost use Rattle.std.specs.Option.{option_copied};
 ghost use Rattle.binary_operators.specs.declared.error.Cause.TheVariants.{OutOfMemory as NoMemory};
 ghost use Rattle.module_check.specs.declared.verdict.Verdict.TheVariants.{Accepted, NotCovered, OutOfMemory};
 ghost use Rattle.c_api.specs.Functions.{module_under, IsBegun, Takes, CannotTake};
@@ -10,12 +9,13 @@ ghost use Rattle.c_api.specs.Shown.{shown_type, shown_operand, shown_frame};
 ghost use Rattle.validate_body.specs.Begin.{CannotStart};
 ghost use Rattle.validate_body.specs.Runs.{IsAcceptedBody, IsSafe};
 ghost use Rattle.validate_body.specs.Start.{state, DefinesLocals, CannotDefine};
-ghost use Rattle.validate_func.specs.Functions.{function_from, body_state, unmarked, IsStaticRun, Fails};
+ghost use Rattle.validate_func.specs.Functions.{function_from, body_state, Fails};
 ghost use Rattle.validate_stacks.specs.State.{IsStarting};
 ghost use Rattle.validate_stacks.specs.Steps.{type_at_depth, frame_at};
 ghost use Rattle.validation_rules.specs.Static.{operand_count, frame_count};
 
 use crate::accepted::AcceptedOperators;
+use crate::on_refusal::OnRefusal;
 use crate::shared::SharedModule;
 use crate::shown::{ShownFrame, ShownType};
 use crate::visits::Visits;
@@ -122,27 +122,16 @@ impl FunctionInProgress {
             .define_locals(offset, count, ty, resources)
     }
 
-    /// Takes the operator that the bytes begin with, if it passes at once, as most do, and answers how many bytes it has.
-    /// Else it changes nothing, and [`Self::op`] says whether it is accepted.
+    /// Takes the operator that the bytes begin with, if it passes at once, as most do, and answers how many
+    /// bytes it has. Else it changes nothing, and [`Self::op`] says whether it is accepted.
     #[inline(always)]
     pub fn op_at_once(&mut self, bytes: &[u8], offset: u64) -> Option<usize>
         ensures accepted { IfSome result (λ taken. Takes bytes.now offset taken self.old self.new) }
         ensures unchanged { result ≡ None → self.new ≡ self.old }
     {
-        if self.failed || !self.has_open_frame() {
+        if !self.has_open_frame() || self.failed {
             return None;
         }
-        self.pass(bytes, offset)
-    }
-
-    /// Takes an operator that passes at once, where none was refused and a frame is open.
-    #[inline(always)]
-    fn pass(&mut self, bytes: &[u8], offset: u64) -> Option<usize>
-        requires none_failed { self.old.failed ≡ false }
-        requires open_frame { self.old.present.frames ≢ [] }
-        ensures accepted { IfSome result (λ taken. Takes bytes.now offset taken self.old self.new) }
-        ensures unchanged { result ≡ None → self.new ≡ self.old }
-    {
         match self.visits.visit_at_once(&self.module.held, bytes, offset) {
             Some(taken) => {
                 self.has_operators = true;
@@ -152,93 +141,51 @@ impl FunctionInProgress {
         }
     }
 
-    /// Takes the operator that the bytes begin with, and answers how many bytes it has. If it is refused, or memory ran
-    /// out, the function has failed. A vector operator isn't covered where their proposal is on: that changes nothing.
-    pub fn op(&mut self, alloc: Global, bytes: &[u8], offset: u64) -> Result<usize, Verdict>
+    /// Takes the operator that the bytes begin with, and answers how many bytes it has. If it is refused, or
+    /// memory ran out, that leaves what it is to. A vector operator isn't covered where their proposal is on:
+    /// that changes nothing.
+    pub fn op(
+        &mut self,
+        alloc: Global,
+        bytes: &[u8],
+        offset: u64,
+        on_refusal: OnRefusal,
+    ) -> Result<usize, Verdict>
         ensures accepted { IfOk result (λ taken. Takes bytes.now offset taken self.old self.new) }
         ensures refused { IfErr result (λ verdict. verdict ≢ Accepted) }
         ensures cannot { IfErr result (λ verdict. verdict ≢ OutOfMemory → CannotTake bytes.now self.old) }
-        ensures failed { IfErr result (λ verdict. ((at : ℕ) → verdict ≢ NotCovered at)
-            → Fails self.old self.new) }
+        ensures failed { on_refusal ≡ OnRefusal.Fail → IfErr result (λ verdict.
+            ((at : ℕ) → verdict ≢ NotCovered at) → Fails self.old self.new) }
         ensures uncovered { IfErr result (λ verdict. (at : ℕ) → verdict ≡ NotCovered at
             → self.new ≡ self.old) }
+        ensures back { on_refusal ≡ OnRefusal.LeaveNoTrace → OnErr result (self.new ≡ self.old) }
         ensures had_failed { self.old.failed ≡ true → self.new ≡ self.old }
     {
+        let is_open = self.has_open_frame();
         if self.failed {
             return Err(Verdict::Refused(has_failed(offset)));
         }
-        // It has failed until the operator is accepted.
-        self.failed = true;
-        self.visit(alloc, bytes, offset)
-    }
-
-    /// Takes an operator, where this function is marked as failed for its sake alone: clauses speak of what it was without
-    /// the mark, which goes where the operator is accepted, or isn't covered.
-    fn visit(&mut self, alloc: Global, bytes: &[u8], offset: u64) -> Result<usize, Verdict>
-        requires marked { self.old.failed ≡ true }
-        requires run { IsStaticRun (context_in (module_under self.old)) self.old }
-        ensures accepted { IfOk result (λ taken. Takes bytes.now offset taken (unmarked self.old) self.new) }
-        ensures refused { IfErr result (λ verdict. verdict ≢ Accepted) }
-        ensures cannot { IfErr result (λ verdict. verdict ≢ OutOfMemory
-            → CannotTake bytes.now (unmarked self.old)) }
-        ensures failed { IfErr result (λ verdict. ((at : ℕ) → verdict ≢ NotCovered at)
-            → self.new ≡ record self.old { present = self.new.present }) }
-        ensures uncovered { IfErr result (λ verdict. (at : ℕ) → verdict ≡ NotCovered at
-            → self.new ≡ unmarked self.old) }
-    {
-        if !self.has_open_frame() {
-            return Err(Verdict::Refused(is_closed(offset)));
+        if !is_open {
+            let verdict = Verdict::Refused(is_closed(offset));
+            self.failed = on_refusal.fails_at(&verdict);
+            return Err(verdict);
         }
-        match self.visits.visit(&self.module.held, bytes, offset) {
+        let held = &self.module.held;
+        match self.visits.visit(held, bytes, offset, on_refusal) {
             Ok(taken) => {
                 self.has_operators = true;
-                self.failed = false;
                 Ok(taken)
             }
             Err(CheckError::Unread(error)) => {
                 let verdict = unread(alloc, error, offset).under(&self.module.held.features());
-                self.failed = !verdict.is_not_covered();
+                self.failed = on_refusal.fails_at(&verdict);
                 Err(verdict)
             }
-            Err(CheckError::Refused(refusal)) => Err(Verdict::of_refusal(refusal)),
-        }
-    }
-
-    /// Attempts the operator that the bytes begin with, and answers how many bytes it has. If it is refused, or memory ran
-    /// out, or it isn't covered, it leaves no trace.
-    pub fn try_op(&mut self, alloc: Global, bytes: &[u8], offset: u64) -> Result<usize, Verdict>
-        ensures accepted { IfOk result (λ taken. Takes bytes.now offset taken self.old self.new) }
-        ensures refused { IfErr result (λ verdict. verdict ≢ Accepted) }
-        ensures cannot { IfErr result (λ verdict. verdict ≢ OutOfMemory → CannotTake bytes.now self.old) }
-        ensures back { OnErr result (self.new ≡ self.old) }
-    {
-        if self.failed {
-            return Err(Verdict::Refused(has_failed(offset)));
-        }
-        if !self.has_open_frame() {
-            return Err(Verdict::Refused(is_closed(offset)));
-        }
-        self.attempt(alloc, bytes, offset)
-    }
-
-    /// Attempts an operator, where none was refused and a frame is open.
-    fn attempt(&mut self, alloc: Global, bytes: &[u8], offset: u64) -> Result<usize, Verdict>
-        requires none_failed { self.old.failed ≡ false }
-        requires open_frame { self.old.present.frames ≢ [] }
-        ensures accepted { IfOk result (λ taken. Takes bytes.now offset taken self.old self.new) }
-        ensures refused { IfErr result (λ verdict. verdict ≢ Accepted) }
-        ensures cannot { IfErr result (λ verdict. verdict ≢ OutOfMemory → CannotTake bytes.now self.old) }
-        ensures back { OnErr result (self.new ≡ self.old) }
-    {
-        match self.visits.attempt(&self.module.held, bytes, offset) {
-            Ok(taken) => {
-                self.has_operators = true;
-                Ok(taken)
+            Err(CheckError::Refused(refusal)) => {
+                let verdict = Verdict::of_refusal(refusal);
+                self.failed = on_refusal.fails_at(&verdict);
+                Err(verdict)
             }
-            Err(CheckError::Unread(error)) => {
-                Err(unread(alloc, error, offset).under(&self.module.held.features()))
-            }
-            Err(CheckError::Refused(refusal)) => Err(Verdict::of_refusal(refusal)),
         }
     }
 
@@ -286,42 +233,27 @@ impl FunctionInProgress {
         self.visits.validator.control_stack_height()
     }
 
-    /// The type of the operand at this depth, the top at 0: None past the end, and `Some(None)` for one whose
-    /// type isn't known.
-    pub fn peek_operand_at(&self, depth: usize) -> Option<Option<ValType>>
-        ensures { result ≡ type_at_depth (body_state self.now) depth }
-    {
-        self.visits.validator.peek_operand_at(depth)
-    }
-
-    /// The frame at this depth, the innermost at 0, or None past the end.
-    pub fn get_frame(&self, depth: usize) -> Option<&Frame>
-        ensures { option_copied result ≡ frame_at (body_state self.now) depth }
-    {
-        self.visits.validator.get_frame(depth)
-    }
-
-    /// The type of the operand at this depth, as C is shown it.
+    /// The type of the operand at this depth, the top at 0, as C is shown it, or None past the end.
     pub(crate) fn shown_operand(&self, depth: usize) -> Option<ShownType>
         ensures { result ≡ option_map shown_operand (type_at_depth (body_state self.now) depth) }
     {
-        let ty = self.peek_operand_at(depth)?;
+        let ty = self.visits.validator.peek_operand_at(depth)?;
         Some(ShownType::of_operand(ty))
     }
 
-    /// The frame at this depth, as C is shown it.
+    /// The frame at this depth, the innermost at 0, as C is shown it, or None past the end.
     pub(crate) fn shown_frame(&self, depth: usize) -> Option<ShownFrame>
         ensures { result ≡ option_map shown_frame (frame_at (body_state self.now) depth) }
     {
-        let frame = self.get_frame(depth)?;
+        let frame = self.visits.validator.get_frame(depth)?;
         Some(ShownFrame::of(frame))
     }
 
-    /// The type of the local at this index, as C is shown it.
+    /// The type of the local at this index, as C is shown it, or None past the end.
     pub(crate) fn shown_local(&self, index: u32) -> Option<ShownType>
         ensures { result ≡ option_map shown_type (slice_get self.now.starting.locals index) }
     {
-        let ty = self.get_local_type(index)?;
+        let ty = self.visits.validator.locals().get(index)?;
         Some(ShownType::of(ty))
     }
 
@@ -337,13 +269,6 @@ impl FunctionInProgress {
         ensures { result ≡ length self.now.starting.locals }
     {
         self.visits.validator.locals().len_locals()
-    }
-
-    /// The type of the local at this index, or None past the end.
-    pub fn get_local_type(&self, index: u32) -> Option<ValType>
-        ensures { result ≡ slice_get self.now.starting.locals index }
-    {
-        self.visits.validator.locals().get(index)
     }
 }
 

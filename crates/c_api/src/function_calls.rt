@@ -5,7 +5,7 @@ ghost use Rattle.module_check.specs.Verdicts.{IsConsistent, status_of as status_
 ghost use Rattle.module_check.specs.declared.verdict.Verdict.TheVariants.{Accepted};
 ghost use Rattle.c_api.specs.Calls.{OnHeld, HasNoModule};
 ghost use Rattle.c_api.specs.FunctionCalls.{OnFunction, OfFunction, OfBoth, Becomes, HasNoFunction};
-ghost use Rattle.c_api.specs.FunctionCalls.{OpAnswer, TryAnswer};
+ghost use Rattle.c_api.specs.FunctionCalls.{OpAnswer, HandleAnswer};
 ghost use Rattle.c_api.specs.Functions.{IsBegun, IsExpressionBegun, Takes, CannotTake};
 ghost use Rattle.c_api.specs.Functions.{DefinesShown, IsWhole};
 ghost use Rattle.c_api.specs.Modules.{module_of};
@@ -17,6 +17,7 @@ use crate::calls::{another, keep, report_no_module, status_of};
 use crate::function::FunctionInProgress;
 use crate::handle::Handle;
 use crate::kept::Kept;
+use crate::on_refusal::OnRefusal;
 use crate::shared::SharedModule;
 use crate::shown::ShownType;
 use binary_operators::{Fault, ReadError};
@@ -212,6 +213,7 @@ fn op_slowly(
     function: &mut FunctionInProgress,
     bytes: &[u8],
     offset: u64,
+    on_refusal: OnRefusal,
     taken: &mut usize,
     text: &mut [u8],
     out: &mut ModuleVerdict,
@@ -220,9 +222,10 @@ fn op_slowly(
     requires first { out.old.status ≡ 0 }
     requires none_taken { taken.old ≡ 0 }
     ensures consistent { IsConsistent (length text.new) out.new }
-    ensures answer { OpAnswer bytes.now offset taken.new out.new.status function.old function.new }
+    ensures answer { OpAnswer on_refusal bytes.now offset taken.new out.new.status function.old function.new }
 {
-    note_taken(function.op(alloc, bytes, offset), taken, text, out);
+    let answer = function.op(alloc, bytes, offset, on_refusal);
+    note_taken(answer, taken, text, out);
 }
 
 /// The same of one that may pass at once.
@@ -233,6 +236,7 @@ fn op_of(
     function: &mut FunctionInProgress,
     bytes: &[u8],
     offset: u64,
+    on_refusal: OnRefusal,
     taken: &mut usize,
     text: &mut [u8],
     out: &mut ModuleVerdict,
@@ -241,11 +245,11 @@ fn op_of(
     requires first { out.old.status ≡ 0 }
     requires none_taken { taken.old ≡ 0 }
     ensures consistent { IsConsistent (length text.new) out.new }
-    ensures answer { OpAnswer bytes.now offset taken.new out.new.status function.old function.new }
+    ensures answer { OpAnswer on_refusal bytes.now offset taken.new out.new.status function.old function.new }
 {
     match function.op_at_once(bytes, offset) {
         Some(count) => *taken = count,
-        None => op_slowly(alloc, function, bytes, offset, taken, text, out),
+        None => op_slowly(alloc, function, bytes, offset, on_refusal, taken, text, out),
     }
 }
 
@@ -256,6 +260,7 @@ fn op_of_kept(
     kept: &mut Kept,
     bytes: &[u8],
     offset: u64,
+    on_refusal: OnRefusal,
     taken: &mut usize,
     text: &mut [u8],
     out: &mut ModuleVerdict,
@@ -264,18 +269,52 @@ fn op_of_kept(
     requires first { out.old.status ≡ 0 }
     requires none_taken { taken.old ≡ 0 }
     ensures consistent { IsConsistent (length text.new) out.new }
-    ensures answer { OfBoth (Some kept.old) (Some kept.new) (OpAnswer bytes.now offset taken.new out.new.status) }
+    ensures answer { OfBoth (Some kept.old) (Some kept.new)
+        (OpAnswer on_refusal bytes.now offset taken.new out.new.status) }
     ensures none { HasNoFunction (Some kept.old)
         → (out.new.status ≡ 6) × (kept.new ≡ kept.old) × (taken.new ≡ 0) }
 {
     match kept {
-        Kept::Function(function) => op_of(alloc, function, bytes, offset, taken, text, out),
+        Kept::Function(function) => {
+            op_of(alloc, function, bytes, offset, on_refusal, taken, text, out);
+        }
         Kept::Module(_) => report_no_function(text, out),
     }
 }
 
-/// Takes the operator that the bytes begin with. Where the status is 0, it is accepted, and `taken` is how many bytes it
-/// has; else that is 0. Where it is 1, 2 or 3, the function has failed; where it is 4 or 6, nothing is changed.
+/// The same of a handle. The verdict begins.
+#[inline(always)]
+fn op_of_handle(
+    alloc: Global,
+    handle: &mut Handle,
+    bytes: &[u8],
+    offset: u64,
+    on_refusal: OnRefusal,
+    taken: &mut usize,
+    text: &mut [u8],
+    out: &mut ModuleVerdict,
+) -> u32
+    ensures status { result ≡ out.new.status }
+    ensures consistent { IsConsistent (length text.new) out.new }
+    ensures answer { HandleAnswer on_refusal bytes.now offset taken.new result
+        handle.old.held handle.new.held }
+{
+    *out = ModuleVerdict::new();
+    *taken = 0;
+    let Some(mut kept) = handle.take(alloc) else {
+        report_no_function(text, out);
+        return status_of(out);
+    };
+    op_of_kept(
+        alloc, &mut kept, bytes, offset, on_refusal, taken, text, out,
+    );
+    handle.put_back(alloc, kept);
+    status_of(out)
+}
+
+/// Takes the operator that the bytes begin with. Where the status is 0, it is accepted, and `taken` is how
+/// many bytes it has; else that is 0. Where it is 1, 2 or 3, the function has failed; where it is 4 or 6,
+/// nothing is changed.
 pub fn op(
     alloc: Global,
     handle: &mut Handle,
@@ -296,85 +335,16 @@ pub fn op(
     ensures known { (result ≤ 4) ⊎ (result ≡ 6) }
     ensures taken { result ≢ 0 → taken.new ≡ 0 }
 {
-    *out = ModuleVerdict::new();
-    *taken = 0;
-    let Some(mut kept) = handle.take(alloc) else {
-        report_no_function(text, out);
-        return status_of(out);
-    };
-    op_of_kept(alloc, &mut kept, bytes, offset, taken, text, out);
-    handle.put_back(alloc, kept);
-    status_of(out)
-}
-
-/// Attempts an operator that doesn't pass at once, or notes why it isn't accepted.
-#[cold]
-#[inline(never)]
-fn try_op_slowly(
-    alloc: Global,
-    function: &mut FunctionInProgress,
-    bytes: &[u8],
-    offset: u64,
-    taken: &mut usize,
-    text: &mut [u8],
-    out: &mut ModuleVerdict,
-)
-    requires consistent { IsConsistent (length text.old) out.old }
-    requires first { out.old.status ≡ 0 }
-    requires none_taken { taken.old ≡ 0 }
-    ensures consistent { IsConsistent (length text.new) out.new }
-    ensures answer { TryAnswer bytes.now offset taken.new out.new.status function.old function.new }
-{
-    note_taken(function.try_op(alloc, bytes, offset), taken, text, out);
-}
-
-/// The same of one that may pass at once.
-#[inline(always)]
-#[tactic(auto, using(crate::proofs::Answered::took_at_once))]
-fn try_op_of(
-    alloc: Global,
-    function: &mut FunctionInProgress,
-    bytes: &[u8],
-    offset: u64,
-    taken: &mut usize,
-    text: &mut [u8],
-    out: &mut ModuleVerdict,
-)
-    requires consistent { IsConsistent (length text.old) out.old }
-    requires first { out.old.status ≡ 0 }
-    requires none_taken { taken.old ≡ 0 }
-    ensures consistent { IsConsistent (length text.new) out.new }
-    ensures answer { TryAnswer bytes.now offset taken.new out.new.status function.old function.new }
-{
-    match function.op_at_once(bytes, offset) {
-        Some(count) => *taken = count,
-        None => try_op_slowly(alloc, function, bytes, offset, taken, text, out),
-    }
-}
-
-/// The same of what a handle keeps.
-#[inline(always)]
-fn try_op_of_kept(
-    alloc: Global,
-    kept: &mut Kept,
-    bytes: &[u8],
-    offset: u64,
-    taken: &mut usize,
-    text: &mut [u8],
-    out: &mut ModuleVerdict,
-)
-    requires consistent { IsConsistent (length text.old) out.old }
-    requires first { out.old.status ≡ 0 }
-    requires none_taken { taken.old ≡ 0 }
-    ensures consistent { IsConsistent (length text.new) out.new }
-    ensures answer { OfBoth (Some kept.old) (Some kept.new) (TryAnswer bytes.now offset taken.new out.new.status) }
-    ensures none { HasNoFunction (Some kept.old)
-        → (out.new.status ≡ 6) × (kept.new ≡ kept.old) × (taken.new ≡ 0) }
-{
-    match kept {
-        Kept::Function(function) => try_op_of(alloc, function, bytes, offset, taken, text, out),
-        Kept::Module(_) => report_no_function(text, out),
-    }
+    op_of_handle(
+        alloc,
+        handle,
+        bytes,
+        offset,
+        OnRefusal::Fail,
+        taken,
+        text,
+        out,
+    )
 }
 
 /// The same, but where the status isn't 0, nothing is changed.
@@ -396,15 +366,16 @@ pub fn try_op(
     ensures known { (result ≤ 4) ⊎ (result ≡ 6) }
     ensures taken { result ≢ 0 → taken.new ≡ 0 }
 {
-    *out = ModuleVerdict::new();
-    *taken = 0;
-    let Some(mut kept) = handle.take(alloc) else {
-        report_no_function(text, out);
-        return status_of(out);
-    };
-    try_op_of_kept(alloc, &mut kept, bytes, offset, taken, text, out);
-    handle.put_back(alloc, kept);
-    status_of(out)
+    op_of_handle(
+        alloc,
+        handle,
+        bytes,
+        offset,
+        OnRefusal::LeaveNoTrace,
+        taken,
+        text,
+        out,
+    )
 }
 
 /// Notes what a call comes to.

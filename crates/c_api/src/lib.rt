@@ -12,6 +12,7 @@ mod handle;
 mod items;
 mod kept;
 mod loose;
+mod on_refusal;
 mod shared;
 mod shown;
 mod shown_calls;

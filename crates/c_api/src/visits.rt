@@ -6,15 +6,21 @@ ghost use Rattle.module_check.specs.Refusals.{IsRefusal};
 ghost use Rattle.c_api.specs.Modules.{context_in};
 ghost use Rattle.c_api.specs.Operators.{IsOperatorOf, BeginsWithNone, HasNoRow};
 ghost use Rattle.validate_body.specs.Start.{state, stacks_of};
+ghost use Rattle.validate_resources.specs.Kept.{declared_lists};
+ghost use Rattle.validate_resources.specs.Lists.{context_of};
 ghost use Rattle.validate_stacks.specs.Pops.{IsKept};
 ghost use Rattle.validate_stacks.specs.State.{IsValidBody};
-ghost use Rattle.validate_stacks.specs.Visits.{MayVisit};
+ghost use Rattle.validate_stacks.specs.Visits.{MayVisit, Meets};
+ghost use Rattle.validation_rules.specs.Operators.{operator};
 
 use crate::accepted::AcceptedOperators;
+use crate::on_refusal::OnRefusal;
 use crate::shared::HeldModule;
 use binary_operators::{BinaryReader, OperatorLists, ReadError, read_operator_into};
 use module_check::CheckError;
 use validate_body::{OperatorValidator, try_op};
+use validate_resources::ModuleLists;
+use validate_types::Error;
 use validate_visit::{NumericOp, Op};
 
 /// Reads the operator that the bytes begin with into this place, and answers how many bytes it has. It refuses as
@@ -48,6 +54,28 @@ fn read_at_once<'l>(
     match read_into(module, bytes, lists, op) {
         Ok(taken) => Some(taken),
         Err(_) => None,
+    }
+}
+
+/// Checks an operator, and leaves of one that isn't accepted what it is to.
+fn check_operator(
+    v: &mut OperatorValidator,
+    resources: &ModuleLists,
+    offset: u64,
+    op: &Op<'_>,
+    on_refusal: OnRefusal,
+) -> Result<(), Error>
+    requires idle { (state v.old).undone ≡ None }
+    requires visit { MayVisit (context_of (declared_lists resources.now)) (stacks_of v.old) }
+    ensures meets { Meets (context_of (declared_lists resources.now)) (λ cx. operator cx op.now) offset
+        (state v.old) result (state v.new) }
+    ensures back { on_refusal ≡ OnRefusal.LeaveNoTrace → OnErr result (state v.new ≡ state v.old) }
+    ensures valid { IsValidBody (context_of (declared_lists resources.now)) (state v.new) }
+    ensures kept { IsKept (state v.old) (state v.new) }
+{
+    match on_refusal {
+        OnRefusal::Fail => v.check_ref(resources, offset, op),
+        OnRefusal::LeaveNoTrace => try_op(v, resources, offset, *op),
     }
 }
 
@@ -90,42 +118,23 @@ impl Visits {
         module: &HeldModule,
         bytes: &[u8],
         offset: u64,
-    ) -> Result<usize, CheckError>
-        requires { MayVisit (context_in module.now) (stacks_of self.old.validator) }
-        ensures accepted { IfOk result (λ taken. IsVisited module.now bytes.now offset taken self.old self.new) }
-        ensures refused { IfErr result (λ e. IsRefusal e
-            → HasNoRow module.now bytes.now (state self.old.validator)) }
-        ensures unread { IfErr result (λ e. IsUnread e → IsUnvisited self.old self.new) }
-        ensures list { OnErr result (self.new.accepted ≡ self.old.accepted) }
-        ensures valid { IsValidBody (context_in module.now) (state self.new.validator) }
-        ensures kept { IsKept (state self.old.validator) (state self.new.validator) }
-    {
-        let mut op = Op::Numeric(NumericOp::I32Const(0));
-        let taken = read_into(module, bytes, &mut self.lists, &mut op)?;
-        self.validator.check_ref(module.resources(), offset, &op)?;
-        self.accepted = self.accepted.and(&op, &offset);
-        Ok(taken)
-    }
-
-    /// The same, but a refusal leaves no trace.
-    pub(crate) fn attempt(
-        &mut self,
-        module: &HeldModule,
-        bytes: &[u8],
-        offset: u64,
+        on_refusal: OnRefusal,
     ) -> Result<usize, CheckError>
         requires idle { (state self.old.validator).undone ≡ None }
         requires visit { MayVisit (context_in module.now) (stacks_of self.old.validator) }
         ensures accepted { IfOk result (λ taken. IsVisited module.now bytes.now offset taken self.old self.new) }
         ensures refused { IfErr result (λ e. IsRefusal e
             → HasNoRow module.now bytes.now (state self.old.validator)) }
-        ensures back { OnErr result (IsUnvisited self.old self.new) }
+        ensures unread { IfErr result (λ e. IsUnread e → IsUnvisited self.old self.new) }
+        ensures back { on_refusal ≡ OnRefusal.LeaveNoTrace → OnErr result (IsUnvisited self.old self.new) }
+        ensures list { OnErr result (self.new.accepted ≡ self.old.accepted) }
         ensures valid { IsValidBody (context_in module.now) (state self.new.validator) }
         ensures kept { IsKept (state self.old.validator) (state self.new.validator) }
     {
         let mut op = Op::Numeric(NumericOp::I32Const(0));
         let taken = read_into(module, bytes, &mut self.lists, &mut op)?;
-        try_op(&mut self.validator, module.resources(), offset, op)?;
+        let resources = module.resources();
+        check_operator(&mut self.validator, resources, offset, &op, on_refusal)?;
         self.accepted = self.accepted.and(&op, &offset);
         Ok(taken)
     }

@@ -21,11 +21,19 @@ use Rattle.module_rules.specs.declared.items.RecGroup.{RecGroup}
 -- ---- proposals
 
 abbrev pub every : ModuleFeatures
-every = record { 0 = 67108863 }
+every =
+    record {
+      operators = record { 0 = 2097151 };
+      mutable_global = true;
+      memory64 = true;
+      multi_memory = true;
+      extended_const = true;
+      custom_page_sizes = true;
+    }
 
--- all but one
+-- all but one of those that operators ask for
 abbrev pub without : ℕ → ModuleFeatures
-without bit = record { 0 = 67108863 - bit }
+without bit = record every { operators = record { 0 = 2097151 - bit } }
 
 -- ---- references
 

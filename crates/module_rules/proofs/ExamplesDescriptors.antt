@@ -2,7 +2,7 @@
 -- Descriptors" says of them.
 use Rattle.std.proofs.Common.{◌≡◌, Bool, true, false, List, [], ◌∷◌, refl}
 use Rattle.validate_types.specs.declared.types.SubType.{SubType}
-use Rattle.module_rules.specs.Features.{custom_descriptors}
+use Rattle.validate_types.specs.Features.{custom_descriptors}
 use Rattle.module_rules.specs.Descriptors.{have_valid_descriptors}
 use Rattle.module_rules.specs.Types.{are_valid_types}
 use Rattle.module_rules.specs.declared.features.ModuleFeatures.{ModuleFeatures}

@@ -6,10 +6,8 @@ use Rattle.validate_types.specs.declared.refs.RefType.{RefType}
 use Rattle.validate_types.specs.declared.types.SubType.{SubType}
 use Rattle.validate_types.specs.declared.types.ValType.{ValType}
 use Rattle.validate_types.specs.declared.types.ValType.TheVariants.{I32, F32}
-use Rattle.validate_types.specs.Features.{floats}
-use Rattle.module_rules.specs.Features.{reference_types, threads, shared_everything_threads, exceptions}
-use Rattle.module_rules.specs.Features.{function_references, custom_descriptors, stack_switching, mutable_global}
-use Rattle.module_rules.specs.Features.{is_on, gc, memory64, multi_memory, custom_page_sizes}
+use Rattle.validate_types.specs.Features.{has, floats, reference_types, threads, shared_everything_threads, exceptions, function_references, gc}
+use Rattle.validate_types.specs.Features.{custom_descriptors, stack_switching}
 use Rattle.module_rules.specs.declared.features.TheConstants.ModuleFeatures.{DEFAULT}
 use Rattle.module_rules.specs.Functions.{are_valid_functions, are_valid_tags, is_valid_start}
 use Rattle.module_rules.specs.Globals.{are_valid_globals}
@@ -57,7 +55,7 @@ table_past_its_addresses = refl
 table_of_64_bits : is_table every (a_table true false funcref (between 0 4294967296) RefNull) ≡ true
 table_of_64_bits = refl
 
-table_of_64_bits_without : is_table (without memory64) (a_table true false funcref (from 0) RefNull) ≡ false
+table_of_64_bits_without : is_table (record every { memory64 = false }) (a_table true false funcref (from 0) RefNull) ≡ false
 table_of_64_bits_without = refl
 
 most_entries : is_table every (a_table false false funcref (from 4294967295) RefNull) ≡ true
@@ -139,7 +137,7 @@ memory_of_64_bits = refl
 past_64_bits : is_memory every (a_memory true false None (from 281474976710657)) ≡ false
 past_64_bits = refl
 
-memory_of_64_bits_without : is_memory (without memory64) (a_memory true false None (from 0)) ≡ false
+memory_of_64_bits_without : is_memory (record every { memory64 = false }) (a_memory true false None (from 0)) ≡ false
 memory_of_64_bits_without = refl
 
 shared_memory : is_memory every (a_memory false true None (between 1 1)) ≡ true
@@ -157,19 +155,22 @@ pages_of_one_byte = refl
 pages_of_one_byte_of_64_bits : is_memory every (a_memory true false (Some 0) (from 18446744073709551615)) ≡ true
 pages_of_one_byte_of_64_bits = refl
 
+pages_past_64_bits : is_memory every (a_memory true false (Some 0) (from 18446744073709551616)) ≡ false
+pages_past_64_bits = refl
+
 pages_as_ever : is_memory every (a_memory false false (Some 16) (from 65536)) ≡ true
 pages_as_ever = refl
 
 pages_of_two_bytes : is_memory every (a_memory false false (Some 1) (from 0)) ≡ false
 pages_of_two_bytes = refl
 
-page_size_without : is_memory (without custom_page_sizes) (a_memory false false (Some 16) (from 0)) ≡ false
+page_size_without : is_memory (record every { custom_page_sizes = false }) (a_memory false false (Some 16) (from 0)) ≡ false
 page_size_without = refl
 
 two_memories : are_valid_memories every (replicate 2 (a_memory false false None (from 0))) ≡ true
 two_memories = refl
 
-two_memories_without : are_valid_memories (without multi_memory) (replicate 2 (a_memory false false None (from 0))) ≡ false
+two_memories_without : are_valid_memories (record every { multi_memory = false }) (replicate 2 (a_memory false false None (from 0))) ≡ false
 two_memories_without = refl
 
 -- ---- globals
@@ -199,10 +200,10 @@ shared_global_without : is_global (without shared_everything_threads) (a_global 
 shared_global_without = refl
 
 -- the proposal of globals that can be written is one of imports and exports
-written_without : is_global (without mutable_global) (a_global true false I32) ≡ true
+written_without : is_global (record every { mutable_global = false }) (a_global true false I32) ≡ true
 written_without = refl
 
-imported_without : are_valid_globals (without mutable_global) types 1 (a_global true false I32 ∷ []) ≡ false
+imported_without : are_valid_globals (record every { mutable_global = false }) types 1 (a_global true false I32 ∷ []) ≡ false
 imported_without = refl
 
 imported_global : are_valid_globals every types 1 (a_global true false I32 ∷ []) ≡ true
@@ -273,14 +274,14 @@ unknown_start = refl
 
 -- ---- the default set
 
-default_gc : is_on DEFAULT gc ≡ true
+default_gc : has DEFAULT.operators gc ≡ true
 default_gc = refl
 
-default_memory64 : is_on DEFAULT memory64 ≡ true
+default_memory64 : DEFAULT.memory64 ≡ true
 default_memory64 = refl
 
-default_page_sizes : is_on DEFAULT custom_page_sizes ≡ false
+default_page_sizes : DEFAULT.custom_page_sizes ≡ false
 default_page_sizes = refl
 
-default_stack_switching : is_on DEFAULT stack_switching ≡ false
+default_stack_switching : has DEFAULT.operators stack_switching ≡ false
 default_stack_switching = refl

@@ -1,8 +1,9 @@
 -- Exports, segments, constant expressions, the functions that `ref.func` may name, and whole modules, computed. What is
 -- expected is what the standard's rules say of them.
-use Rattle.std.proofs.Common.{◌≡◌, ℕ, pos, Bool, true, false, List, [], ◌∷◌, replicate, Some, None, refl}
+use Rattle.std.proofs.Common.{◌≡◌, ℕ, pos, Bool, true, false, List, [], ◌∷◌, map, replicate, Some, None, refl}
 use Rattle.std.specs.Prelude.{codes}
-use Rattle.validate_types.specs.Features.{has, bulk_memory, bulk_memory_opt}
+use Rattle.validate_resources.specs.declared.lists.FuncDecl.{FuncDecl}
+use Rattle.validate_types.specs.Features.{has, bulk_memory, bulk_memory_opt, gc}
 use Rattle.validate_types.specs.Refs.{reference}
 use Rattle.validate_types.specs.declared.refs.RefType.{RefType}
 use Rattle.validate_types.specs.declared.types.SubType.{SubType}
@@ -13,14 +14,20 @@ use Rattle.validate_visit.specs.declared.op.ArrayOp.TheVariants.{ArrayNewFixed, 
 use Rattle.validate_visit.specs.declared.op.ControlOp.TheVariants.{End, GlobalGet, Call, Nop}
 use Rattle.validate_visit.specs.declared.op.NumericOp.TheVariants.{I32Const, IntegerBinary, Eqz}
 use Rattle.validate_visit.specs.declared.op.Op.{Op}
-use Rattle.validate_visit.specs.declared.op.Op.TheVariants.{Control, Numeric, Reference, Struct, Array}
+use Rattle.validate_visit.specs.declared.op.Op.TheVariants.{Control, Numeric, Reference, Struct, Array, Shared}
 use Rattle.validate_visit.specs.declared.op.ReferenceOp.TheVariants.{RefNull, RefFunc, RefI31, RefIsNull}
 use Rattle.validate_visit.specs.declared.op.StructOp.TheVariants.{StructNew, StructGet}
+use Rattle.validate_visit.specs.declared.memory.Ordering.TheVariants.{SeqCst}
+use Rattle.validate_visit.specs.declared.shared.Exchange.{Exchange}
+use Rattle.validate_visit.specs.declared.shared.Exchange.TheVariants.{Get, Set}
+use Rattle.validate_visit.specs.declared.shared.SharedOp.TheVariants.{Global as SharedGlobal, RefI31Shared}
+use Rattle.validate_visit.specs.declared.shared.Update.TheVariants.{Value}
 use Rattle.module_rules.specs.Constants.{is_constant_in, expression_type}
 use Rattle.module_rules.specs.Declarations.{Declarations, nothing_declared}
 use Rattle.module_rules.specs.Exported.{Exported}
 use Rattle.module_rules.specs.Exports.{are_valid_exports}
-use Rattle.module_rules.specs.Features.{gc, mutable_global, extended_const, operator_features}
+use Rattle.module_rules.specs.Features.{of_bits, operator_features}
+use Rattle.module_rules.specs.Lookup.{lookup_lists}
 use Rattle.module_rules.specs.References.{is_referenced}
 use Rattle.module_rules.specs.Segments.{are_valid_elements, are_valid_data}
 use Rattle.module_rules.specs.Validity.{is_valid_module}
@@ -94,7 +101,7 @@ a_module = record {
 valid_module : is_valid_module every a_module ≡ true
 valid_module = refl
 
-empty_module : is_valid_module (record { 0 = 0 }) nothing_declared ≡ true
+empty_module : is_valid_module (of_bits 0) nothing_declared ≡ true
 empty_module = refl
 
 too_few_functions : is_valid_module every (record a_module { functions = replicate 1 a_function }) ≡ false
@@ -138,10 +145,10 @@ one_item_twice = refl
 one_name_twice : exports every (an_export (codes "a") Func 0 ∷ an_export (codes "b") Func 1 ∷ an_export (codes "a") Memory 0 ∷ []) ≡ false
 one_name_twice = refl
 
-written_global_without : exports (without mutable_global) (an_export (codes "a") Global 1 ∷ []) ≡ false
+written_global_without : exports (record every { mutable_global = false }) (an_export (codes "a") Global 1 ∷ []) ≡ false
 written_global_without = refl
 
-read_only_global_without : exports (without mutable_global) (an_export (codes "a") Global 2 ∷ []) ≡ true
+read_only_global_without : exports (record every { mutable_global = false }) (an_export (codes "a") Global 2 ∷ []) ≡ true
 read_only_global_without = refl
 
 -- ---- element segments
@@ -201,7 +208,7 @@ an_end = refl
 a_sum : is_constant every (InGlobal 2) (Numeric (IntegerBinary IntegerI32 Add)) ≡ true
 a_sum = refl
 
-a_sum_without : is_constant (without extended_const) (InGlobal 2) (Numeric (IntegerBinary IntegerI32 Add)) ≡ false
+a_sum_without : is_constant (record every { extended_const = false }) (InGlobal 2) (Numeric (IntegerBinary IntegerI32 Add)) ≡ false
 a_sum_without = refl
 
 a_conjunction : is_constant every (InGlobal 2) (Numeric (IntegerBinary IntegerI32 And)) ≡ false
@@ -239,6 +246,18 @@ an_array = refl
 
 an_array_length : is_constant every (InGlobal 2) (Array ArrayLen) ≡ false
 an_array_length = refl
+
+abbrev accesses : Exchange → Bool
+accesses access = is_constant every (InGlobal 2) (Shared (SharedGlobal (Value access) SeqCst 0))
+
+a_shared_read : accesses Get ≡ true
+a_shared_read = refl
+
+a_shared_write : accesses Set ≡ false
+a_shared_write = refl
+
+a_shared_i31 : is_constant every (InGlobal 2) (Shared RefI31Shared) ≡ true
+a_shared_i31 = refl
 
 -- global 0 is imported, global 2 is not
 abbrev names : ModuleFeatures → Place → ℕ → Bool
@@ -316,11 +335,25 @@ start_alone = refl
 referenced_by_expression : is_referenced (record a_module { expression_functions = 0 ∷ [] }) 0 ≡ true
 referenced_by_expression = refl
 
+-- what a lookup over the module says of each
+referenced_in_the_lookup : map (λ (f : FuncDecl). f.referenced) (lookup_lists a_module).functions ≡ false ∷ true ∷ true ∷ []
+referenced_in_the_lookup = refl
+
 -- ---- proposals
 
 -- bulk memory brings its copies and fills, which don't bring the rest of it
-bulk_memory_alone : has (operator_features (record { 0 = bulk_memory })) bulk_memory_opt ≡ true
+bulk_memory_alone : has (operator_features (of_bits bulk_memory)) bulk_memory_opt ≡ true
 bulk_memory_alone = refl
 
-copies_and_fills_alone : has (operator_features (record { 0 = bulk_memory_opt })) bulk_memory ≡ false
+copies_and_fills_alone : has (operator_features (of_bits bulk_memory_opt)) bulk_memory ≡ false
 copies_and_fills_alone = refl
+
+-- the bits above these stand for no proposal
+all_bits : of_bits 4294967295 ≡ every
+all_bits = refl
+
+bit_of_long_memories : of_bits 4194304 ≡ record (of_bits 0) { memory64 = true }
+bit_of_long_memories = refl
+
+bit_of_several_memories : of_bits 8388608 ≡ record (of_bits 0) { multi_memory = true }
+bit_of_several_memories = refl

@@ -3,8 +3,7 @@
 use Rattle.std.proofs.Common.{◌≡◌, ℕ, zero, suc, Bool, true, false, List, [], ◌∷◌, ◌++◌, length, replicate, refl}
 use Rattle.validate_types.specs.declared.types.SubType.{SubType}
 use Rattle.validate_types.specs.declared.types.ValType.TheVariants.{I32, I64, F64}
-use Rattle.validate_types.specs.Features.{floats}
-use Rattle.module_rules.specs.Features.{multi_value, gc, shared_everything_threads, stack_switching, function_references}
+use Rattle.validate_types.specs.Features.{floats, multi_value, gc, shared_everything_threads, stack_switching, function_references}
 use Rattle.module_rules.specs.Matching.{is_composite_below}
 use Rattle.module_rules.specs.Types.{are_valid_types, subtyping_depth}
 use Rattle.module_rules.specs.declared.features.ModuleFeatures.{ModuleFeatures}

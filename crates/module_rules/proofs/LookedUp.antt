@@ -8,6 +8,7 @@ use Rattle.std.specs.Option.{option_and_then}
 use Rattle.std.proofs.lemmas.Bool.{and_parts, and_from, leb-true, eqb-true, ltb-true, lt-ltb}
 use Rattle.std.proofs.lemmas.List.{drop-drop, drop_all, take-append-drop}
 use Rattle.std.proofs.lemmas.List.Folds.{list_all-append}
+use Rattle.validate_types.specs.Features.{has, gc}
 use Rattle.validate_types.specs.Heap.{number_of}
 use Rattle.validate_types.specs.Kinds.{signature_of, is_struct}
 use Rattle.validate_types.specs.Types.{Signature}
@@ -28,7 +29,6 @@ use Rattle.validate_resources.specs.Indices.{option_index_passes, inner_indices_
 use Rattle.validate_resources.specs.Lists.{is_func_type}
 use Rattle.validate_resources.specs.Order.{is_same_kind, is_same_sort, has_supertype_of_its_sort}
 use Rattle.module_rules.specs.Descriptors.{has_valid_descriptor}
-use Rattle.module_rules.specs.Features.{is_on, gc}
 use Rattle.module_rules.specs.Functions.{is_tag_signature}
 use Rattle.module_rules.specs.Matching.{is_inner_below, is_descriptor_below}
 use Rattle.module_rules.specs.Types.{is_earlier, matches_type, matches_supertype, named_below, are_valid_groups}
@@ -139,7 +139,7 @@ groups-known features types first (g ∷ gs) h =
     let within = leb-true (first + g.count) (length types) (and_parts _ (nat_le (first + g.count) (length types)) b.0).1 in
     let count : (first + g.count) - first ≡ g.count = omega arith in
     let below = named_below features first (first + g.count) in
-    let most : below ≤ first + g.count = up-to-the-end (is_on features gc) (first + g.count) first (omega arith) in
+    let most : below ≤ first + g.count = up-to-the-end (has features.operators gc) (first + g.count) first (omega arith) in
     let all : below ≤ length types = omega arith in
     let here = all-weaker _ _ (indices-weaker (is_known below) (is_known (length types)) (known-within below (length types) all))
     (take ((first + g.count) - first) (drop first types)) b.1 in

@@ -4,6 +4,7 @@
 use Rattle.std.specs.Prelude.{ℕ, Bool, true, false, List, ◌&&◌, ◌||◌, not, nat_lt, length}
 use Rattle.std.specs.Prelude.{Option, Some, None, slice_get, take}
 use Rattle.std.specs.Option.{option_map, option_and_then}
+use Rattle.validate_types.specs.Features.{has, gc}
 use Rattle.validate_types.specs.Types.{address_type_of_memory, address_type_of_table}
 use Rattle.validate_types.specs.declared.types.ValType.{ValType}
 use Rattle.validate_types.specs.declared.types.ValType.TheVariants.{Ref}
@@ -31,7 +32,6 @@ use Rattle.validate_visit.specs.declared.shared.SharedOp.{SharedOp}
 use Rattle.validate_visit.specs.declared.shared.SharedOp.TheVariants.{Global as GlobalAtomic, RefI31Shared}
 use Rattle.validate_visit.specs.declared.shared.Exchange.TheVariants.{Get}
 use Rattle.module_rules.specs.Declarations.{Declarations}
-use Rattle.module_rules.specs.Features.{is_on, gc, extended_const}
 use Rattle.module_rules.specs.Segments.{item_type}
 use Rattle.module_rules.specs.declared.features.ModuleFeatures.{ModuleFeatures}
 use Rattle.module_rules.specs.declared.items.DeclaredGlobal.{DeclaredGlobal}
@@ -58,9 +58,9 @@ is_constant_control may_name _ = false
 
 -- sums, differences and products are of a proposal (part of the standard's version 3.0)
 abbrev pub is_constant_binary : ModuleFeatures → IntegerBinaryOp → Bool
-is_constant_binary features Add = is_on features extended_const
-is_constant_binary features Sub = is_on features extended_const
-is_constant_binary features Mul = is_on features extended_const
+is_constant_binary features Add = features.extended_const
+is_constant_binary features Sub = features.extended_const
+is_constant_binary features Mul = features.extended_const
 is_constant_binary features _ = false
 
 abbrev pub is_constant_numeric : ModuleFeatures → NumericOp → Bool
@@ -123,7 +123,8 @@ is_immutable (Some g) = not g.ty.mutable
 -- one of the first so many that can't be written; without collected types, an imported one
 abbrev pub may_name_global : ModuleFeatures → Declarations → ℕ → ℕ → Bool
 may_name_global features d count i =
-    is_immutable (slice_get (take count d.globals) i) && (nat_lt i d.imports.globals || is_on features gc)
+    is_immutable (slice_get (take count d.globals) i)
+    && (nat_lt i d.imports.globals || has features.operators gc)
 
 -- so many: those before a global, imported ones in a table, all of them in a segment (Specification,
 -- "Modules": the context of tables and globals has imported globals alone, and for each global those before

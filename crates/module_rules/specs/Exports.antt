@@ -5,7 +5,6 @@ use Rattle.std.specs.List.{list_all, list_any}
 use Rattle.std.specs.Str.{bytes_eq}
 use Rattle.module_rules.specs.Declarations.{Declarations}
 use Rattle.module_rules.specs.Exported.{Exported}
-use Rattle.module_rules.specs.Features.{is_on, mutable_global}
 use Rattle.module_rules.specs.declared.features.ModuleFeatures.{ModuleFeatures}
 use Rattle.module_rules.specs.declared.items.DeclaredGlobal.{DeclaredGlobal}
 use Rattle.module_rules.specs.declared.items.ExternalKind.{ExternalKind}
@@ -27,7 +26,7 @@ is_read_only (Some g) = not g.ty.mutable
 
 abbrev pub is_export_enabled : ModuleFeatures → List DeclaredGlobal → ExternalKind → ℕ → Bool
 is_export_enabled features globals Global i =
-    is_on features mutable_global || is_read_only (slice_get globals i)
+    features.mutable_global || is_read_only (slice_get globals i)
 is_export_enabled features globals _ i = true
 
 abbrev pub is_valid_export : ModuleFeatures → Declarations → Exported → Bool

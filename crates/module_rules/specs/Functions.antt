@@ -4,11 +4,11 @@ use Rattle.std.specs.Prelude.{ℕ, Bool, true, false, List, ◌&&◌, ◌||◌, 
 use Rattle.std.specs.Prelude.{Option, Some, None, slice_get}
 use Rattle.std.specs.List.{list_all, enumerate_from}
 use Rattle.std.specs.Option.{option_and_then}
+use Rattle.validate_types.specs.Features.{has, exceptions, custom_descriptors, stack_switching}
 use Rattle.validate_types.specs.Kinds.{signature_of}
 use Rattle.validate_types.specs.Types.{Signature}
 use Rattle.validate_types.specs.declared.types.SubType.{SubType}
 use Rattle.validate_resources.specs.Lists.{is_func_type}
-use Rattle.module_rules.specs.Features.{is_on, exceptions, custom_descriptors, stack_switching}
 use Rattle.module_rules.specs.declared.features.ModuleFeatures.{ModuleFeatures}
 use Rattle.module_rules.specs.declared.items.DeclaredFunction.{DeclaredFunction}
 use Rattle.module_rules.specs.declared.items.DeclaredTag.{DeclaredTag}
@@ -26,7 +26,7 @@ signature_at types i = option_and_then signature_of (slice_get types i)
 abbrev pub is_valid_function : ModuleFeatures → List SubType → ℕ → ℕ → DeclaredFunction → Bool
 is_valid_function features types imported i f =
     is_func_type (slice_get types f.type_index)
-    && (not (nat_lt i imported && f.exact) || is_on features custom_descriptors)
+    && (not (nat_lt i imported && f.exact) || has features.operators custom_descriptors)
 
 -- how many there are is a limit of an implementation
 abbrev pub are_valid_functions : ModuleFeatures → List SubType → ℕ → List DeclaredFunction → Bool
@@ -40,11 +40,11 @@ are_valid_functions features types imported functions =
 -- it is of a function type, which gives something only where continuations can give it back
 abbrev pub is_tag_signature : ModuleFeatures → Option Signature → Bool
 is_tag_signature features None = false
-is_tag_signature features (Some f) = length f.results == 0 || is_on features stack_switching
+is_tag_signature features (Some f) = length f.results == 0 || has features.operators stack_switching
 
 abbrev pub is_valid_tag : ModuleFeatures → List SubType → DeclaredTag → Bool
 is_valid_tag features types t =
-    is_on features exceptions && is_tag_signature features (signature_at types t.func_type_idx)
+    has features.operators exceptions && is_tag_signature features (signature_at types t.func_type_idx)
 
 -- how many there are is a limit of an implementation
 abbrev pub are_valid_tags : ModuleFeatures → List SubType → List DeclaredTag → Bool

@@ -2,7 +2,7 @@
 use Rattle.std.specs.Prelude.{ℕ, Bool, true, List, ◌&&◌, ◌||◌, ◌==◌, not, nat_le, length, if◌then◌else◌}
 use Rattle.std.specs.Prelude.{Option, Some, None, is_some}
 use Rattle.std.specs.List.{list_all}
-use Rattle.module_rules.specs.Features.{is_on, threads, memory64, multi_memory, custom_page_sizes}
+use Rattle.validate_types.specs.Features.{has, threads}
 use Rattle.module_rules.specs.Limits.{are_within, memory_bound}
 use Rattle.module_rules.specs.declared.features.ModuleFeatures.{ModuleFeatures}
 use Rattle.module_rules.specs.declared.items.DeclaredMemory.{DeclaredMemory}
@@ -13,14 +13,14 @@ module _ (features : ModuleFeatures) where
   abbrev pub is_valid_page_size : Option ℕ → Bool
   is_valid_page_size None = true
   is_valid_page_size (Some size_log2) =
-      is_on features custom_page_sizes && (size_log2 == 0 || size_log2 == 16)
+      features.custom_page_sizes && (size_log2 == 0 || size_log2 == 16)
 
   -- addresses of 64 bits are of a proposal; so are shared memories, which have a maximum (a proposal,
   -- "Threads")
   abbrev pub is_memory_enabled : DeclaredMemory → Bool
   is_memory_enabled m =
-      (not m.ty.memory64 || is_on features memory64)
-      && (not m.ty.shared || is_on features threads && is_some m.limits.maximum)
+      (not m.ty.memory64 || features.memory64)
+      && (not m.ty.shared || has features.operators threads && is_some m.limits.maximum)
 
   abbrev pub is_valid_memory : DeclaredMemory → Bool
   is_valid_memory m =
@@ -29,7 +29,7 @@ module _ (features : ModuleFeatures) where
 
   -- several memories are of a proposal; how many is a limit of an implementation
   abbrev pub max_memories : ℕ
-  max_memories = if is_on features multi_memory then MAX_WASM_MEMORIES else 1
+  max_memories = if features.multi_memory then MAX_WASM_MEMORIES else 1
 
   abbrev pub are_valid_memories : List DeclaredMemory → Bool
   are_valid_memories memories = nat_le (length memories) max_memories && list_all is_valid_memory memories

@@ -3,13 +3,13 @@
 use Rattle.std.specs.Prelude.{ℕ, Bool, true, false, List, ◌&&◌, ◌==◌, nat_lt, nat_le, length}
 use Rattle.std.specs.Prelude.{Option, Some, None, slice_get}
 use Rattle.std.specs.List.{list_all}
+use Rattle.validate_types.specs.Features.{has, bulk_memory}
 use Rattle.validate_types.specs.Refs.{non_null_reference}
 use Rattle.validate_types.specs.declared.heap.AbstractHeapType.TheVariants.{Func}
 use Rattle.validate_types.specs.declared.heap.HeapType.TheVariants.{Abstract}
 use Rattle.validate_types.specs.declared.refs.RefType.{RefType}
 use Rattle.validate_types.specs.declared.types.SubType.{SubType}
 use Rattle.validate_resources.specs.Order.{is_ref_below}
-use Rattle.module_rules.specs.Features.{is_on, bulk_memory}
 use Rattle.module_rules.specs.Tables.{is_valid_element_type}
 use Rattle.module_rules.specs.declared.features.ModuleFeatures.{ModuleFeatures}
 use Rattle.module_rules.specs.declared.items.DeclaredTable.{DeclaredTable}
@@ -51,8 +51,8 @@ takes_elements types r (Some t) = is_ref_below types r t.ty.element_type
 -- segments that operators name are of a proposal
 abbrev pub is_valid_element_kind :
     ModuleFeatures → List SubType → List DeclaredTable → RefType → ElementKind → Bool
-is_valid_element_kind features types tables r Passive = is_on features bulk_memory
-is_valid_element_kind features types tables r Declared = is_on features bulk_memory
+is_valid_element_kind features types tables r Passive = has features.operators bulk_memory
+is_valid_element_kind features types tables r Declared = has features.operators bulk_memory
 is_valid_element_kind features types tables r (Active table) = takes_elements types r (slice_get tables table)
 
 abbrev pub is_valid_element : ModuleFeatures → List SubType → ℕ → List DeclaredTable → Element → Bool
@@ -71,7 +71,7 @@ are_valid_elements features types functions tables elements =
 
 -- the memory is there, of which a module has so many
 abbrev pub is_valid_data_kind : ModuleFeatures → ℕ → DataKind → Bool
-is_valid_data_kind features memories PassiveData = is_on features bulk_memory
+is_valid_data_kind features memories PassiveData = has features.operators bulk_memory
 is_valid_data_kind features memories (ActiveData memory) = nat_lt memory memories
 
 -- where the module says how many there are, there are as many (Specification, "Binary Format: Modules", data

@@ -2,7 +2,8 @@
 use Rattle.std.specs.Prelude.{ℕ, Bool, true, false, List, ◌&&◌, ◌||◌, not, nat_lt, nat_le, length}
 use Rattle.std.specs.Prelude.{if◌then◌else◌}
 use Rattle.std.specs.List.{list_all, enumerate_from}
-use Rattle.validate_types.specs.Features.{is_ref_enabled}
+use Rattle.validate_types.specs.Features.{has, reference_types, shared_everything_threads}
+use Rattle.validate_types.specs.Features.{function_references, is_ref_enabled}
 use Rattle.validate_types.specs.declared.heap.AbstractHeapType.TheVariants.{Func}
 use Rattle.validate_types.specs.declared.heap.HeapType.{HeapType}
 use Rattle.validate_types.specs.declared.heap.HeapType.TheVariants.{Abstract}
@@ -10,8 +11,7 @@ use Rattle.validate_types.specs.declared.refs.RefType.{RefType}
 use Rattle.validate_types.specs.declared.types.SubType.{SubType}
 use Rattle.validate_resources.specs.Indices.{is_known, ref_indices_pass}
 use Rattle.validate_resources.specs.Order.{is_heap_shared}
-use Rattle.module_rules.specs.Features.{is_on, operator_features, reference_types, shared_everything_threads}
-use Rattle.module_rules.specs.Features.{function_references, memory64}
+use Rattle.module_rules.specs.Features.{operator_features}
 use Rattle.module_rules.specs.Limits.{are_within, table_bound}
 use Rattle.module_rules.specs.declared.features.ModuleFeatures.{ModuleFeatures}
 use Rattle.module_rules.specs.declared.items.DeclaredTable.{DeclaredTable}
@@ -39,9 +39,9 @@ is_valid_element_type features types r =
 -- addresses of 64 bits are of a proposal; so are shared tables, of which the elements are shared too
 abbrev pub is_table_enabled : ModuleFeatures → List SubType → DeclaredTable → Bool
 is_table_enabled features types t =
-    (not t.ty.table64 || is_on features memory64)
+    (not t.ty.table64 || features.memory64)
     && (not t.ty.shared
-    || is_on features shared_everything_threads && is_heap_shared types t.ty.element_type.heap_type)
+    || has features.operators shared_everything_threads && is_heap_shared types t.ty.element_type.heap_type)
 
 abbrev pub is_valid_table_type : ModuleFeatures → List SubType → DeclaredTable → Bool
 is_valid_table_type features types t =
@@ -53,7 +53,7 @@ is_valid_table_type features types t =
 -- elements without a default value have an initializer
 abbrev pub may_begin_so : ModuleFeatures → RefType → TableInit → Bool
 may_begin_so features r RefNull = r.nullable
-may_begin_so features r Expr = is_on features function_references
+may_begin_so features r Expr = has features.operators function_references
 
 -- table i, where so many are imported
 abbrev pub is_valid_table : ModuleFeatures → List SubType → ℕ → ℕ → DeclaredTable → Bool
@@ -63,7 +63,7 @@ is_valid_table features types imported i t =
 
 -- several tables are of a proposal; how many is a limit of an implementation
 abbrev pub max_tables : ModuleFeatures → ℕ
-max_tables features = if is_on features reference_types then MAX_WASM_TABLES else 1
+max_tables features = if has features.operators reference_types then MAX_WASM_TABLES else 1
 
 abbrev pub are_valid_tables : ModuleFeatures → List SubType → ℕ → List DeclaredTable → Bool
 are_valid_tables features types imported tables =

@@ -3,7 +3,8 @@ use Rattle.std.specs.Prelude.{ℕ, ◌+◌, Bool, true, false, List, [], ◌∷�
 use Rattle.std.specs.Prelude.{nat_le, length, if◌then◌else◌}
 use Rattle.std.specs.Prelude.{Option, Some, None, is_none, slice_get, slice_range}
 use Rattle.std.specs.List.{list_all, enumerate_from}
-use Rattle.validate_types.specs.Features.{is_type_enabled}
+use Rattle.validate_types.specs.Features.{has, multi_value, shared_everything_threads, gc, custom_descriptors}
+use Rattle.validate_types.specs.Features.{stack_switching, is_type_enabled}
 use Rattle.validate_types.specs.Heap.{number_of}
 use Rattle.validate_types.specs.Types.{unpacked_type}
 use Rattle.validate_types.specs.declared.heap.UnpackedIndex.{UnpackedIndex}
@@ -18,8 +19,7 @@ use Rattle.validate_resources.specs.Indices.{is_known, sub_indices_pass}
 use Rattle.validate_resources.specs.Lists.{continues_function}
 use Rattle.validate_resources.specs.Order.{is_heap_shared, supertypes}
 use Rattle.module_rules.specs.Descriptors.{have_valid_descriptors}
-use Rattle.module_rules.specs.Features.{is_on, operator_features, multi_value, shared_everything_threads, gc}
-use Rattle.module_rules.specs.Features.{custom_descriptors, stack_switching}
+use Rattle.module_rules.specs.Features.{operator_features}
 use Rattle.module_rules.specs.Matching.{is_composite_below}
 use Rattle.module_rules.specs.declared.features.ModuleFeatures.{ModuleFeatures}
 use Rattle.module_rules.specs.declared.items.RecGroup.{RecGroup}
@@ -46,16 +46,17 @@ may_stand_in features types shared t =
 
 -- the proposal of its kind is on; how many fields a struct has is a limit of an implementation
 abbrev pub is_kind_enabled : ModuleFeatures → CompositeInnerType → Bool
-is_kind_enabled features (Func f) = nat_le (length f.results) 1 || is_on features multi_value
-is_kind_enabled features (Array a) = is_on features gc
-is_kind_enabled features (Struct fields) = is_on features gc && nat_le (length fields) MAX_WASM_STRUCT_FIELDS
-is_kind_enabled features (Cont c) = is_on features stack_switching
+is_kind_enabled features (Func f) = nat_le (length f.results) 1 || has features.operators multi_value
+is_kind_enabled features (Array a) = has features.operators gc
+is_kind_enabled features (Struct fields) =
+    has features.operators gc && nat_le (length fields) MAX_WASM_STRUCT_FIELDS
+is_kind_enabled features (Cont c) = has features.operators stack_switching
 
 -- sharedness and descriptors are of proposals of their own
 abbrev pub is_composite_enabled : ModuleFeatures → CompositeType → Bool
 is_composite_enabled features c =
-    is_kind_enabled features c.inner && (not c.shared || is_on features shared_everything_threads)
-    && (is_none c.descriptor_idx && is_none c.describes_idx || is_on features custom_descriptors)
+    is_kind_enabled features c.inner && (not c.shared || has features.operators shared_everything_threads)
+    && (is_none c.descriptor_idx && is_none c.describes_idx || has features.operators custom_descriptors)
 
 abbrev pub is_valid_composite : ModuleFeatures → List SubType → CompositeType → Bool
 is_valid_composite features types c =
@@ -74,7 +75,7 @@ matches_supertype types c (Some i) = matches_type types c (slice_get types (numb
 
 -- what is not final, or has a supertype, is of the proposal that brings supertypes
 abbrev pub is_sub_type_enabled : ModuleFeatures → SubType → Bool
-is_sub_type_enabled features s = s.is_final && is_none s.supertype_idx || is_on features gc
+is_sub_type_enabled features s = s.is_final && is_none s.supertype_idx || has features.operators gc
 
 abbrev pub is_valid_sub_type : ModuleFeatures → List SubType → SubType → Bool
 is_valid_sub_type features types s =
@@ -102,12 +103,12 @@ has_valid_chain types k s =
 -- below which index the types of a group may name types: its own, and so themselves, need the proposal that brings
 -- recursive types
 abbrev pub named_below : ModuleFeatures → ℕ → ℕ → ℕ
-named_below features first end = if is_on features gc then end else first
+named_below features first end = if has features.operators gc then end else first
 
 -- it is written as a group only where that proposal is on; its types are there, and name types that they may name
 abbrev pub is_valid_group : ModuleFeatures → List SubType → ℕ → RecGroup → Bool
 is_valid_group features types first g =
-    (not g.explicit || is_on features gc) && nat_le (first + g.count) (length types)
+    (not g.explicit || has features.operators gc) && nat_le (first + g.count) (length types)
     && list_all (sub_indices_pass (is_known (named_below features first (first + g.count))))
     (slice_range types first (first + g.count))
 

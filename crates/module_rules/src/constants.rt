@@ -34,7 +34,7 @@ fn is_constant_binary(features: ModuleFeatures, op: IntegerBinaryOp) -> bool
 {
     match op {
         IntegerBinaryOp::Add | IntegerBinaryOp::Sub | IntegerBinaryOp::Mul => {
-            features.extended_const()
+            features.extended_const
         }
         _ => false,
     }
@@ -115,7 +115,7 @@ fn check_global(
     ensures { is_ok result ≡ may_name_global features (declarations_of declared.now) count index }
 {
     check_immutable(&declared.globals, count, index)?;
-    if index >= declared.imports.globals && !features.gc() {
+    if index >= declared.imports.globals && !features.operators.gc() {
         return Err(Fault::OwnGlobal);
     }
     Ok(())

@@ -3,7 +3,7 @@
 
 ghost use Rattle.std.specs.Prelude.{◌≡◌, is_ok, nat_lt, slice_get};
 ghost use Rattle.std.specs.List.{list_all};
-ghost use Rattle.module_rules.specs.Features.{is_on, bulk_memory};
+ghost use Rattle.validate_types.specs.Features.{has, bulk_memory};
 ghost use Rattle.module_rules.specs.Segments.{item_type, item_count, are_valid_items, takes_elements, is_valid_element_kind, is_valid_element, are_valid_elements, is_valid_data_kind, is_data_count, are_valid_data};
 
 use crate::faults::{Fault, Located, locate};
@@ -98,9 +98,9 @@ fn check_element_kind(
 
 /// The proposal of segments that operators name is on.
 fn check_bulk_memory(features: ModuleFeatures) -> Result<(), Fault>
-    ensures { is_ok result ≡ is_on features bulk_memory }
+    ensures { is_ok result ≡ has features.operators bulk_memory }
 {
-    if features.bulk_memory() {
+    if features.operators.bulk_memory() {
         return Ok(());
     }
     Err(Fault::BulkMemoryOff)

@@ -44,7 +44,7 @@ fn is_export_enabled(
     ensures { result ≡ is_export_enabled features globals.now kind index }
 {
     match kind {
-        ExternalKind::Global => features.mutable_global() || is_read_only(globals, index),
+        ExternalKind::Global => features.mutable_global || is_read_only(globals, index),
         _ => true,
     }
 }

@@ -50,7 +50,7 @@ fn check_function(
     ensures { is_ok result ≡ is_valid_function features types.now imported index function.now }
 {
     check_func_type(types, function.type_index)?;
-    if index < imported as usize && function.exact && !features.custom_descriptors() {
+    if index < imported as usize && function.exact && !features.operators.custom_descriptors() {
         return Err(Fault::ExactImportsOff);
     }
     Ok(())
@@ -93,7 +93,7 @@ pub fn check_functions(
 fn check_tag_type(features: ModuleFeatures, ty: &FuncType) -> Result<(), Fault>
     ensures { is_ok result ≡ is_tag_signature features (Some ty.now) }
 {
-    if ty.results().is_empty() || features.stack_switching() {
+    if ty.results().is_empty() || features.operators.stack_switching() {
         return Ok(());
     }
     Err(Fault::TagWithResults)
@@ -103,7 +103,7 @@ fn check_tag_type(features: ModuleFeatures, ty: &FuncType) -> Result<(), Fault>
 fn check_tag(features: ModuleFeatures, types: &[SubType], tag: &DeclaredTag) -> Result<(), Fault>
     ensures { is_ok result ≡ is_valid_tag features types.now tag.now }
 {
-    if !features.exceptions() {
+    if !features.operators.exceptions() {
         return Err(Fault::ExceptionsOff);
     }
     match func_type_at(types, tag.func_type_idx) {

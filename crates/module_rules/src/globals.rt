@@ -3,8 +3,8 @@
 
 ghost use Rattle.std.specs.Prelude.{◌≡◌, ◌&&◌, ◌||◌, ℕ, is_ok, not};
 ghost use Rattle.std.specs.List.{list_all, enumerate_from};
-ghost use Rattle.validate_types.specs.Features.{is_type_enabled};
-ghost use Rattle.module_rules.specs.Features.{is_on, operator_features, shared_everything_threads};
+ghost use Rattle.validate_types.specs.Features.{has, is_type_enabled, shared_everything_threads};
+ghost use Rattle.module_rules.specs.Features.{operator_features};
 ghost use Rattle.module_rules.specs.Globals.{is_valid_value_type, is_valid_global, are_valid_globals};
 ghost use Rattle.module_rules.specs.Types.{is_type_shared};
 
@@ -43,13 +43,13 @@ fn check_shared(
     types: &[SubType],
     global: &DeclaredGlobal,
 ) -> Result<(), Fault>
-    ensures { is_ok result ≡ (not global.now.ty.shared || is_on features shared_everything_threads
+    ensures { is_ok result ≡ (not global.now.ty.shared || has features.operators shared_everything_threads
         && is_type_shared types.now global.now.ty.content_type) }
 {
     if !global.ty.shared {
         return Ok(());
     }
-    if !features.shared_everything_threads() {
+    if !features.operators.shared_everything_threads() {
         return Err(Fault::SharedGlobalsOff);
     }
     if !is_type_shared(types, global.ty.content_type) {
@@ -70,7 +70,7 @@ fn check_global(
     ensures { is_ok result ≡ is_valid_global features types.now imported index global.now }
 {
     check_value_type(features, types, global.ty.content_type)?;
-    if global.ty.mutable && index < imported as usize && !features.mutable_global() {
+    if global.ty.mutable && index < imported as usize && !features.mutable_global {
         return Err(Fault::WrittenGlobalsOff);
     }
     check_shared(features, types, global)

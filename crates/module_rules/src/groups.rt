@@ -18,7 +18,7 @@ use validate_types::{PackedIndex, SubType};
 fn named_below(features: ModuleFeatures, first: usize, end: usize) -> usize
     ensures { result ≡ named_below features first end }
 {
-    if features.gc() { end } else { first }
+    if features.operators.gc() { end } else { first }
 }
 
 /// Why the types of a group that ends at this index can't name the one at that.
@@ -40,7 +40,7 @@ fn check_group(
     requires { first ≤ length types.now }
     ensures { is_ok result ≡ is_valid_group features types.now first group.now }
 {
-    if group.explicit && !features.gc() {
+    if group.explicit && !features.operators.gc() {
         return Err(Fault::GroupOff);
     }
     let end = first + group.count as usize;

@@ -28,7 +28,7 @@ mod validity;
 
 pub use crate::constants::{ConstantContext, check_constant_operator, expression_type};
 pub use crate::faults::{Fault, Located, VisitName};
-pub use crate::features::ModuleFeatures;
+pub use crate::features::{DECLARATION_FLAGS, ModuleFeatures};
 pub use crate::items::{
     DeclaredFunction, DeclaredGlobal, DeclaredMemory, DeclaredTable, DeclaredTag, Export,
     ExternalKind, Limits, RecGroup, Start, TableInit,

@@ -18,7 +18,7 @@ fn check_page_size(features: ModuleFeatures, page_size_log2: Option<u32>) -> Res
     let Some(size) = page_size_log2 else {
         return Ok(());
     };
-    if !features.custom_page_sizes() {
+    if !features.custom_page_sizes {
         return Err(Fault::PageSizesOff);
     }
     if size != 0 && size != 16 {
@@ -44,10 +44,10 @@ fn check_memory(features: ModuleFeatures, memory: &DeclaredMemory) -> Result<(),
     if !are_ordered(memory.limits) {
         return Err(Fault::MinimumAboveMaximum);
     }
-    if memory.ty.memory64 && !features.memory64() {
+    if memory.ty.memory64 && !features.memory64 {
         return Err(Fault::Memory64Off);
     }
-    if memory.ty.shared && !features.threads() {
+    if memory.ty.shared && !features.operators.threads() {
         return Err(Fault::SharedMemoriesOff);
     }
     check_page_size(features, memory.page_size_log2)?;
@@ -64,7 +64,7 @@ fn check_memory(features: ModuleFeatures, memory: &DeclaredMemory) -> Result<(),
 pub fn max_memories(features: ModuleFeatures) -> usize
     ensures { result ≡ max_memories features }
 {
-    if features.multi_memory() {
+    if features.multi_memory {
         MAX_WASM_MEMORIES
     } else {
         1

@@ -5,8 +5,8 @@ ghost use Rattle.std.specs.Prelude.{◌≡◌, ◌&&◌, ◌||◌, ℕ, is_ok, l
 ghost use Rattle.std.specs.List.{list_all, enumerate_from};
 ghost use Rattle.validate_resources.specs.Indices.{is_known, ref_indices_pass};
 ghost use Rattle.validate_resources.specs.Order.{is_heap_shared};
-ghost use Rattle.validate_types.specs.Features.{is_ref_enabled};
-ghost use Rattle.module_rules.specs.Features.{is_on, operator_features, shared_everything_threads};
+ghost use Rattle.validate_types.specs.Features.{has, is_ref_enabled, shared_everything_threads};
+ghost use Rattle.module_rules.specs.Features.{operator_features};
 ghost use Rattle.module_rules.specs.Tables.{is_any_function, is_funcref, is_valid_element_type, is_valid_table_type, may_begin_so, is_valid_table, max_tables, are_valid_tables};
 
 use crate::faults::{Fault, Located, locate};
@@ -79,13 +79,13 @@ fn check_shared(
     types: &[SubType],
     table: &DeclaredTable,
 ) -> Result<(), Fault>
-    ensures { is_ok result ≡ (not table.now.ty.shared || is_on features shared_everything_threads
+    ensures { is_ok result ≡ (not table.now.ty.shared || has features.operators shared_everything_threads
         && is_heap_shared types.now table.now.ty.element_type.heap_type) }
 {
     if !table.ty.shared {
         return Ok(());
     }
-    if !features.shared_everything_threads() {
+    if !features.operators.shared_everything_threads() {
         return Err(Fault::SharedTablesOff);
     }
     if !is_heap_shared(types, table.ty.element_type.heap_type()) {
@@ -104,7 +104,7 @@ fn check_table_type(
     ensures { is_ok result ≡ is_valid_table_type features types.now table.now }
 {
     check_element_type(features, types, table.ty.element_type)?;
-    if table.ty.table64 && !features.memory64() {
+    if table.ty.table64 && !features.memory64 {
         return Err(Fault::Table64Off);
     }
     if !are_ordered(table.limits) {
@@ -123,7 +123,9 @@ fn check_init(features: ModuleFeatures, ty: RefType, init: TableInit) -> Result<
 {
     match init {
         TableInit::RefNull if !ty.is_nullable() => Err(Fault::NoInitializer),
-        TableInit::Expr if !features.function_references() => Err(Fault::TableInitializersOff),
+        TableInit::Expr if !features.operators.function_references() => Err(
+            Fault::TableInitializersOff,
+        ),
         _ => Ok(()),
     }
 }
@@ -149,7 +151,7 @@ fn check_table(
 pub fn max_tables(features: ModuleFeatures) -> usize
     ensures { result ≡ max_tables features }
 {
-    if features.reference_types() {
+    if features.operators.reference_types() {
         MAX_WASM_TABLES
     } else {
         1

@@ -118,7 +118,7 @@ fn check_parts(
 fn check_struct_on(features: ModuleFeatures, ty: &StructType) -> Result<(), Fault>
     ensures { is_ok result ≡ is_kind_enabled features (Struct ty.now) }
 {
-    if !features.gc() {
+    if !features.operators.gc() {
         return Err(Fault::StructsOff);
     }
     if ty.fields.len() > MAX_WASM_STRUCT_FIELDS {
@@ -131,12 +131,13 @@ fn check_struct_on(features: ModuleFeatures, ty: &StructType) -> Result<(), Faul
 fn check_kind_on(features: ModuleFeatures, inner: &CompositeInnerType) -> Result<(), Fault>
     ensures { is_ok result ≡ is_kind_enabled features inner.now }
 {
+    let operators = features.operators;
     match inner {
-        CompositeInnerType::Func(ty) if ty.results().len() > 1 && !features.multi_value() => {
+        CompositeInnerType::Func(ty) if ty.results().len() > 1 && !operators.multi_value() => {
             Err(Fault::SeveralResultsOff)
         }
-        CompositeInnerType::Array(_) if !features.gc() => Err(Fault::ArraysOff),
-        CompositeInnerType::Cont(_) if !features.stack_switching() => Err(Fault::ContinuationsOff),
+        CompositeInnerType::Array(_) if !operators.gc() => Err(Fault::ArraysOff),
+        CompositeInnerType::Cont(_) if !operators.stack_switching() => Err(Fault::ContinuationsOff),
         CompositeInnerType::Struct(ty) => check_struct_on(features, ty),
         CompositeInnerType::Func(_) | CompositeInnerType::Array(_) | CompositeInnerType::Cont(_) =>
             { Ok(()) }
@@ -148,11 +149,11 @@ fn check_kind_on(features: ModuleFeatures, inner: &CompositeInnerType) -> Result
 fn check_composite_on(features: ModuleFeatures, ty: &CompositeType) -> Result<(), Fault>
     ensures { is_ok result ≡ is_composite_enabled features ty.now }
 {
-    if ty.shared && !features.shared_everything_threads() {
+    if ty.shared && !features.operators.shared_everything_threads() {
         return Err(Fault::SharedTypesOff);
     }
     let has_descriptors = ty.descriptor_idx.is_some() || ty.describes_idx.is_some();
-    if has_descriptors && !features.custom_descriptors() {
+    if has_descriptors && !features.operators.custom_descriptors() {
         return Err(Fault::DescriptorsOff);
     }
     check_kind_on(features, &ty.inner)
@@ -216,7 +217,7 @@ fn check_supertype(
 fn check_sub_type_on(features: ModuleFeatures, ty: &SubType) -> Result<(), Fault>
     ensures { is_ok result ≡ is_sub_type_enabled features ty.now }
 {
-    if ty.is_final && ty.supertype_idx.is_none() || features.gc() {
+    if ty.is_final && ty.supertype_idx.is_none() || features.operators.gc() {
         return Ok(());
     }
     Err(Fault::SubtypesOff)

@@ -158,6 +158,24 @@ impl Flags for WasmFeatures {
 }
 
 impl WasmFeatures {
+    /// What wasmparser's `WasmFeatures::default()` has of them: the proposals of the standard's version 3.0,
+    /// and threads.
+    pub const DEFAULT: WasmFeatures = WasmFeatures(
+        WasmFeatures::MULTI_VALUE.0
+            | WasmFeatures::FLOATS.0
+            | WasmFeatures::SIMD.0
+            | WasmFeatures::REFERENCE_TYPES.0
+            | WasmFeatures::BULK_MEMORY.0
+            | WasmFeatures::BULK_MEMORY_OPT.0
+            | WasmFeatures::SIGN_EXTENSION.0
+            | WasmFeatures::SATURATING_FLOAT_TO_INT.0
+            | WasmFeatures::THREADS.0
+            | WasmFeatures::EXCEPTIONS.0
+            | WasmFeatures::TAIL_CALL.0
+            | WasmFeatures::FUNCTION_REFERENCES.0
+            | WasmFeatures::GC.0,
+    );
+
     /// Blocks with parameters, and several results.
     pub fn multi_value(self) -> bool
         ensures { result ≡ has self feature.multi_value }

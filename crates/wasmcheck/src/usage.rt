@@ -2,11 +2,11 @@
 
 use crate::shown::add_word;
 use crate::written::Written;
-use module_check::ModuleFeatures;
+use module_rules::DECLARATION_FLAGS;
 use std::alloc::{AllocError, Global};
 use std::io;
 use std::io::Write;
-use validate_types::Flags;
+use validate_types::{Flags, WasmFeatures};
 
 /// What `--help` begins with, up to the names of proposals.
 const OPTIONS: &str = "\
@@ -31,11 +31,11 @@ of their functions, and their constant expressions. Says whether a module is val
       --           all words after this are files
 
 Sets: all; none; default, which wasmparser has on; the standard's versions: wasm1 or mvp, wasm2,
-wasm3. Proposals, in whose names a - may stand for a _:
-";
+wasm3. Proposals, in whose names a - may stand for a _:";
 
 /// What it ends with.
 const STATUSES: &str = "
+
 Status: 0 valid; 1 invalid; 2 malformed, or an unknown option, proposal or function; 3 out of memory,
 or a read or write failed; 4 not covered: nothing is refused, but there are vector operators; 5 a
 file can't be read. If several hold, it is the first of 3, 5, 2, 1, 4.
@@ -47,17 +47,25 @@ const VERSION: &str = "wasmcheck 0.1.0, the operator validator of wasmparser 0.2
 /// So many names of proposals stand in a line.
 const NAMES_IN_LINE: usize = 4;
 
+/// Adds the name of the proposal at this place.
+fn add_name(help: &mut Written, place: usize, name: &str) {
+    if place % NAMES_IN_LINE == 0 {
+        help.add("\n  ");
+    }
+    help.add(" ");
+    help.add(name);
+}
+
 /// Writes how the program is used.
 pub fn write_help<W: Write>(alloc: Global, out: &mut W) -> io::Result<()> {
     let mut help = Written::new(alloc);
     help.add(OPTIONS);
-    for names in ModuleFeatures::flags().chunks(NAMES_IN_LINE) {
-        help.add("  ");
-        for flag in names {
-            help.add(" ");
-            help.add(flag.name);
-        }
-        help.add("\n");
+    let flags = WasmFeatures::flags();
+    for (place, flag) in flags.iter().enumerate() {
+        add_name(&mut help, place, flag.name);
+    }
+    for (place, (name, _)) in DECLARATION_FLAGS.iter().enumerate() {
+        add_name(&mut help, flags.len().saturating_add(place), name);
     }
     help.add(STATUSES);
     help.write_to(out)

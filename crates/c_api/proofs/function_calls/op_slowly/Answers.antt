@@ -5,5 +5,5 @@ use Rattle.c_api.proofs.function_calls.op_slowly.Goals as goal
 
 pub returns-clause-answer : goal.returns-clause-answer
 returns-clause-answer c =
-    op_answer c.args.bytes.now c.args.offset _ _ c.args.function.now c.op.new.self c.op.result (subst (Tells c.op.result c.note_taken.new.out.status c.note_taken.new.taken) c.requires.none_taken c.note_taken.ensures.told)
-    c.op.ensures.accepted c.op.ensures.refused c.op.ensures.cannot c.op.ensures.failed c.op.ensures.uncovered
+    op_answer c.args.on_refusal c.args.bytes.now c.args.offset _ _ c.args.function.now c.op-answer.new.self c.op-answer.result (subst (Tells c.op-answer.result c.note_taken.new.out.status c.note_taken.new.taken) c.requires.none_taken c.note_taken.ensures.told)
+    c.op-answer.ensures.accepted c.op-answer.ensures.refused c.op-answer.ensures.cannot c.op-answer.ensures.failed c.op-answer.ensures.uncovered c.op-answer.ensures.back

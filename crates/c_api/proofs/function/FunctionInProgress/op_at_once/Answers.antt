@@ -1,24 +1,23 @@
 -- The operator joins the list.
-use Rattle.std.proofs.Common.{◌≡◌, ◌∙◌, true, false, ap, subst}
+use Rattle.std.proofs.Common.{◌≡◌, true, false, subst}
 use Rattle.validate_body.proofs.Listed.{visit_valid, visit_kept}
 use Rattle.validate_body.specs.Start.{state}
 use Rattle.validate_func.specs.Functions.{function_state}
 use Rattle.c_api.specs.Functions.{InProgress, Takes}
 use Rattle.c_api.specs.VisitsMade.{IsVisited}
 use Rattle.c_api.proofs.Taken.{sound, takes, some_taken}
-use Rattle.c_api.proofs.function.FunctionInProgress.pass.Goals as goal
+use Rattle.c_api.proofs.function.FunctionInProgress.op_at_once.Goals as goal
 
 pub invariant_of-self : goal.invariant_of-self
 invariant_of-self c =
     let f = c.self.inside in
     let w = c.visit_at_once.new.self in
     let x = subst (λ h. IsVisited h c.args.bytes.now c.args.offset c.in-Some.taken f.visits w) c.deref.ensures c.in-Some.ensures.accepted in
-    let none_failed : f.failed ≡ false = ap (λ (g : InProgress). g.failed) c.self.view_is ∙ c.requires.none_failed in
     let kept = visit_kept _ _ _ _ _ _ x.meets in
     record {
-      sound = sound f.module f.first_frame f.visits w c.args.bytes.now c.args.offset c.in-Some.taken f.failed f.failed x kept none_failed c.self.invariant.sound (c.self.invariant.sound.run none_failed) (visit_valid _ _ _ _ _ _ x.meets);
+      sound = sound f.module f.first_frame f.visits w c.args.bytes.now c.args.offset c.in-Some.taken f.failed f.failed x kept c.if-self.false c.self.invariant.sound (c.self.invariant.sound.run c.if-self.false) (visit_valid _ _ _ _ _ _ x.meets);
       none_before = λ (e : true ≡ false). absurd cc;
-      some_before = λ _. some_taken f.module f.first_frame f.visits w c.args.bytes.now c.args.offset c.in-Some.taken f.failed f.failed x kept none_failed;
+      some_before = λ _. some_taken f.module f.first_frame f.visits w c.args.bytes.now c.args.offset c.in-Some.taken f.failed f.failed x kept c.if-self.false;
     }
 
 pub returns-in-Some-clause-accepted : goal.returns-in-Some-clause-accepted
@@ -26,7 +25,6 @@ returns-in-Some-clause-accepted c =
     let f = c.self.inside in
     let w = c.visit_at_once.new.self in
     let x = subst (λ h. IsVisited h c.args.bytes.now c.args.offset c.in-Some.taken f.visits w) c.deref.ensures c.in-Some.ensures.accepted in
-    let none_failed : f.failed ≡ false = ap (λ (g : InProgress). g.failed) c.self.view_is ∙ c.requires.none_failed in
     let new : InProgress = function_state f.module f.first_frame (state w.validator) w.accepted.operators f.failed in
     subst (λ (g : InProgress). Takes c.args.bytes.now c.args.offset c.in-Some.taken g new) c.self.view_is
-    (takes f.module f.first_frame f.visits w c.args.bytes.now c.args.offset c.in-Some.taken f.failed f.failed x (visit_kept _ _ _ _ _ _ x.meets) none_failed none_failed)
+    (takes f.module f.first_frame f.visits w c.args.bytes.now c.args.offset c.in-Some.taken f.failed f.failed x (visit_kept _ _ _ _ _ _ x.meets) c.if-self.false c.if-self.false)

@@ -57,6 +57,43 @@ fn read_at_once<'l>(
     }
 }
 
+/// Checks an operator. It is a function of its own, as the next one is, so that neither grows too large for what passes
+/// at once to stand in it.
+#[inline(never)]
+fn check_alone(
+    v: &mut OperatorValidator,
+    resources: &ModuleLists,
+    offset: u64,
+    op: &Op<'_>,
+) -> Result<(), Error>
+    requires { MayVisit (context_of (declared_lists resources.now)) (stacks_of v.old) }
+    ensures meets { Meets (context_of (declared_lists resources.now)) (λ cx. operator cx op.now) offset
+        (state v.old) result (state v.new) }
+    ensures valid { IsValidBody (context_of (declared_lists resources.now)) (state v.new) }
+    ensures kept { IsKept (state v.old) (state v.new) }
+{
+    v.check_ref(resources, offset, op)
+}
+
+/// Checks an operator, and leaves nothing of one that isn't accepted.
+#[inline(never)]
+fn try_alone(
+    v: &mut OperatorValidator,
+    resources: &ModuleLists,
+    offset: u64,
+    op: &Op<'_>,
+) -> Result<(), Error>
+    requires idle { (state v.old).undone ≡ None }
+    requires visit { MayVisit (context_of (declared_lists resources.now)) (stacks_of v.old) }
+    ensures meets { Meets (context_of (declared_lists resources.now)) (λ cx. operator cx op.now) offset
+        (state v.old) result (state v.new) }
+    ensures back { OnErr result (state v.new ≡ state v.old) }
+    ensures valid { IsValidBody (context_of (declared_lists resources.now)) (state v.new) }
+    ensures kept { IsKept (state v.old) (state v.new) }
+{
+    try_op(v, resources, offset, *op)
+}
+
 /// Checks an operator, and leaves of one that isn't accepted what it is to.
 fn check_operator(
     v: &mut OperatorValidator,
@@ -74,8 +111,8 @@ fn check_operator(
     ensures kept { IsKept (state v.old) (state v.new) }
 {
     match on_refusal {
-        OnRefusal::Fail => v.check_ref(resources, offset, op),
-        OnRefusal::LeaveNoTrace => try_op(v, resources, offset, *op),
+        OnRefusal::Fail => check_alone(v, resources, offset, op),
+        OnRefusal::LeaveNoTrace => try_alone(v, resources, offset, op),
     }
 }
 

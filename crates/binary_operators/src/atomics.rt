@@ -1,4 +1,6 @@
 //! Atomic operators, behind the prefix 0xfe (the proposals "Threads" and "Shared-Everything Threads").
+//!
+//! `.ci/generate` writes the arrays from `operators.tsv`.
 
 ghost use Rattle.std.specs.Prelude.{◌≡◌, Some, None, option_map, IfOk, OnErr};
 ghost use Rattle.binary_operators.specs.Atomics.{atomic_at, global_accesses, table_accesses, field_accesses};

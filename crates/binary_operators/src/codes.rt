@@ -1,5 +1,7 @@
 //! Operators by their codes (WebAssembly core specification, "Binary Format: Instructions", and the
 //! proposals): a table for each form. A code behind a prefix has the prefix above it, as 0xfb0f.
+//!
+//! `.ci/generate` writes the arms of the tables from `operators.tsv`.
 
 ghost use Rattle.std.specs.Prelude.{◌≡◌, Some, None, option_map, OnOk, OnErr};
 ghost use Rattle.binary_operators.specs.Codes.{at, plain_ops, index_ops, two_index_ops, type_ops};

@@ -1,5 +1,7 @@
 //! What follows the code of an operator (WebAssembly core specification, "Binary Format: Instructions", and
 //! the proposals).
+//!
+//! `.ci/generate` writes the forms of codes from `operators.tsv`; by hand is how each is looked up.
 
 ghost use Rattle.std.specs.Prelude.{◌≡◌, ◌<◌, ◌≤◌, ◌+◌, length, OnSome};
 ghost use Rattle.binary_operators.specs.Forms.{from, forms, forms_behind};

@@ -1,5 +1,7 @@
 //! Operators on numbers of one type, and conversions, by their codes (WebAssembly core specification, "Binary
 //! Format: Instructions", "Numeric Instructions").
+//!
+//! `.ci/generate` writes the arrays from `operators.tsv`.
 
 ghost use Rattle.std.specs.Prelude.{◌≡◌};
 ghost use Rattle.binary_operators.specs.Forms.{from};

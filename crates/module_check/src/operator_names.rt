@@ -1,4 +1,6 @@
 //! Operators by their names in the standard and its proposals: what a message calls the operator that stands in some bytes.
+//!
+//! `.ci/generate` writes the names from `operators.tsv`.
 
 use binary_operators::BinaryReader;
 

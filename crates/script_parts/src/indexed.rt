@@ -1,4 +1,6 @@
 //! Operators whose immediates are indices, by their names.
+//!
+//! `.ci/generate` writes the arms of the matches on names from `operators.tsv`.
 
 ghost use Rattle.std.specs.Prelude.{◌≡◌, [], ◌∷◌, IfSome, map};
 ghost use Rattle.std.specs.Str.Parse.{digits_value};

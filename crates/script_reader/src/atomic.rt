@@ -1,4 +1,6 @@
 //! Atomic operators on an address by their names.
+//!
+//! `.ci/generate` writes the table from `operators.tsv`.
 
 use self::AtomicOnAddress::{Cmpxchg, Load, Notify, Rmw, Store, Wait};
 use crate::access::{integer_alignment, part_alignment};

@@ -1,4 +1,6 @@
 //! Conversions of numbers and extensions of signs by their names.
+//!
+//! `.ci/generate` writes the table from `operators.tsv`.
 
 use validate_visit::ConvertOp::{
     Convert, Demote, Extend, ExtendPacked, Promote, Reinterpret, Trunc, TruncSat, Wrap,

@@ -1,4 +1,6 @@
 //! Loads and stores by their names.
+//!
+//! `.ci/generate` writes the table from `operators.tsv`.
 
 use self::LoadOrStore::{Load, LoadPacked, Store, StorePacked};
 use crate::access::{number_alignment, part_alignment};

@@ -1,4 +1,6 @@
 //! Operators on numbers by their names: a type, a dot, and a word.
+//!
+//! `.ci/generate` writes the tables from `operators.tsv`.
 
 use script_parts::{named_in, read_i32, read_i64, read_index, read_u64};
 use validate_visit::{

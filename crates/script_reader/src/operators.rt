@@ -1,4 +1,6 @@
 //! Operators by their names.
+//!
+//! `.ci/generate` writes the arms of `opener` and `read_with_words` from `operators.tsv`.
 
 use crate::access::read_accessing;
 use crate::conversions::CONVERSIONS;

@@ -1,4 +1,6 @@
 //! Operators without immediates by their names.
+//!
+//! `.ci/generate` writes the table from `operators.tsv`.
 
 use validate_visit::Op::{Array, Atomic, Control, Exception, Reference, Shared};
 use validate_visit::{

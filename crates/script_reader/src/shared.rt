@@ -1,4 +1,6 @@
 //! Atomic operators on globals, tables, structs and arrays by their names.
+//!
+//! `.ci/generate` writes the tables from `operators.tsv`.
 
 use script_parts::{SharedAccess, named_in};
 use validate_visit::Exchange::{Cmpxchg, Get, Set, Xchg};

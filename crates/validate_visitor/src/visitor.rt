@@ -1,4 +1,7 @@
 //! The visitor of operators.
+//!
+//! `.ci/generate` writes the visits from `operators.tsv`; by hand are the rest of the trait and
+//! what it uses.
 
 ghost use Rattle.validate_visit.specs.declared.op.Op.{Op};
 ghost use Rattle.validate_visit.specs.declared.op.Op.TheVariants.{Numeric, Atomic};

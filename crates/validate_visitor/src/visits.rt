@@ -1,4 +1,6 @@
 //! The visits of operators: each is the check of the operator that it names.
+//!
+//! `.ci/generate` writes them from `operators.tsv`; by hand is what they share.
 
 use crate::visitor::VisitOperator;
 use validate_types::{HeapType, RefType, ValType};

@@ -1,8 +1,8 @@
 -- A function in progress that takes an operator.
 use Rattle.std.proofs.Common.{◌≡◌, ℕ, Bool, false, List, ◌∷◌, [], length, Some, ap, arith, length-append}
-use Rattle.validate_body.proofs.Listed.{visited}
-use Rattle.validate_body.specs.Runs.{body_before}
-use Rattle.validate_body.specs.Start.{state}
+use Rattle.validate_operators.proofs.Listed.{visited}
+use Rattle.validate_operators.specs.Runs.{body_before}
+use Rattle.validate_operators.specs.Start.{state}
 use Rattle.validate_func.proofs.Accepted.{sound_accepted, accepts}
 use Rattle.validate_func.specs.Functions.{state_from, function_state, IsSound}
 use Rattle.validate_stacks.specs.Pops.{IsKept}

@@ -1,8 +1,8 @@
 -- A function in progress that takes no operator.
 use Rattle.std.proofs.Common.{◌≡◌, ℕ, Bool, true, false, List, [], length, Some, Result, Ok, Err, OnOk, OnErr, refl, sym, ap, ◌∙◌, subst}
 use Rattle.module_check.proofs.Begun.{some_same}
-use Rattle.validate_body.specs.Runs.{body_before}
-use Rattle.validate_body.specs.Start.{DefinesLocals}
+use Rattle.validate_operators.specs.Runs.{body_before}
+use Rattle.validate_operators.specs.Start.{DefinesLocals}
 use Rattle.validate_func.specs.Functions.{state_from, IsSound}
 use Rattle.validate_resources.specs.Context.{ModuleContext}
 use Rattle.validate_stacks.specs.Pops.{IsKept}

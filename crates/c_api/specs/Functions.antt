@@ -1,9 +1,9 @@
 -- A function that is validated operator by operator, and what becomes of it (the crate's own).
 use Rattle.std.specs.Prelude.{◌≡◌, ◌≢◌, ℕ, false, List, []}
 use Rattle.binary_operators.specs.declared.types.CanonicalTypes.{CanonicalTypes}
-use Rattle.validate_body.specs.Begin.{IsBodyStart}
-use Rattle.validate_body.specs.Runs.{IsAcceptedBody, IsSafe}
-use Rattle.validate_body.specs.Start.{DefinesLocals}
+use Rattle.validate_operators.specs.Begin.{IsBodyStart}
+use Rattle.validate_operators.specs.Runs.{IsAcceptedBody, IsSafe}
+use Rattle.validate_operators.specs.Start.{DefinesLocals}
 use Rattle.validate_func.specs.Functions.{FunctionState, function_from, body_state, Accepts}
 use Rattle.validate_types.specs.declared.types.ValType.{ValType}
 use Rattle.validate_visit.specs.declared.body.BodyKind.{BodyKind}

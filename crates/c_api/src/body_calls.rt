@@ -8,7 +8,7 @@ ghost use Rattle.c_api.specs.Calls.{OnHeld, OnWhole, HasNoBody, HasNoModule};
 ghost use Rattle.c_api.specs.FunctionCalls.{OnFunction};
 ghost use Rattle.c_api.specs.Bodies.{IsBodyBegun, StartsBody, StartsWithLocals};
 ghost use Rattle.c_api.specs.Modules.{context_in, module_of};
-ghost use Rattle.validate_body.specs.Start.{state};
+ghost use Rattle.validate_operators.specs.Start.{state};
 ghost use Rattle.validate_func.specs.Functions.{function_from};
 ghost use Rattle.validate_stacks.specs.State.{IsStarting};
 
@@ -23,7 +23,7 @@ use module_check::{
     operator_name as name_of, write_text,
 };
 use std::alloc::Global;
-use validate_body::OperatorValidator;
+use validate_operators::OperatorValidator;
 use validate_stacks::OperatorValidatorAllocations;
 use validate_types::Error;
 

@@ -5,7 +5,7 @@ ghost use Rattle.binary_operators.specs.declared.error.Cause.TheVariants.{OutOfM
 ghost use Rattle.module_check.specs.Refusals.{IsRefusal};
 ghost use Rattle.c_api.specs.Modules.{context_in};
 ghost use Rattle.c_api.specs.Operators.{IsOperatorOf, BeginsWithNone, HasNoRow};
-ghost use Rattle.validate_body.specs.Start.{state, stacks_of};
+ghost use Rattle.validate_operators.specs.Start.{state, stacks_of};
 ghost use Rattle.validate_resources.specs.Kept.{declared_lists};
 ghost use Rattle.validate_resources.specs.Lists.{context_of};
 ghost use Rattle.validate_stacks.specs.Pops.{IsKept};
@@ -18,7 +18,7 @@ use crate::on_refusal::OnRefusal;
 use crate::shared::HeldModule;
 use binary_operators::{BinaryReader, OperatorLists, ReadError, read_operator_into};
 use module_check::CheckError;
-use validate_body::{OperatorValidator, try_op};
+use validate_operators::{OperatorValidator, try_op};
 use validate_resources::ModuleLists;
 use validate_types::Error;
 use validate_visit::{NumericOp, Op};

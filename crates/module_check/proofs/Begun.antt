@@ -10,11 +10,11 @@ use Rattle.validate_types.specs.Types.{Signature}
 use Rattle.validate_types.specs.declared.types.SubType.{SubType}
 use Rattle.validate_resources.specs.Context.{ModuleContext, signature_at, signature_of}
 use Rattle.validate_visit.specs.declared.op.Op.{Op}
-use Rattle.validate_body.specs.Runs.{without_offsets, IsAcceptedBody}
-use Rattle.validate_body.specs.Start.{DefinesLocals, CannotDefine, IsFuncStart, HasTooManyParams, func_start, const_start}
+use Rattle.validate_operators.specs.Runs.{without_offsets, IsAcceptedBody}
+use Rattle.validate_operators.specs.Start.{DefinesLocals, CannotDefine, IsFuncStart, HasTooManyParams, func_start, const_start}
 use Rattle.validate_stacks.specs.State.{BodyState, IsStarting}
 use Rattle.validate_stacks.specs.Steps.{body_with_locals}
-use Rattle.validate_body.specs.Begin.{IsBodyStart, IsExpressionStart, CannotStart, DefinesEach}
+use Rattle.validate_operators.specs.Begin.{IsBodyStart, IsExpressionStart, CannotStart, DefinesEach}
 use Rattle.module_check.specs.Accepted.{IsCode, AreAcceptedOperators, IsAcceptedCode}
 use Rattle.module_check.specs.Begin.{DefinesRead}
 use Rattle.module_check.specs.Safe.{AreSafeOperators, IsSafeCode}

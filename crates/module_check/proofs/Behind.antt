@@ -18,8 +18,8 @@ use Rattle.validate_stacks.specs.State.{BodyState, body_context, IsStarting, IsV
 use Rattle.validate_stacks.specs.Visits.{step_body, MayVisit, Meets}
 use Rattle.validation_rules.specs.Static.{RowFails}
 use Rattle.validate_stacks.proofs.Validity.{kept_on}
-use Rattle.validate_body.specs.Runs.{without_offsets, IsAcceptedBody}
-use Rattle.validate_body.proofs.Listed.{visited, visit_valid, visit_kept, no_frames, safe_accepted}
+use Rattle.validate_operators.specs.Runs.{without_offsets, IsAcceptedBody}
+use Rattle.validate_operators.proofs.Listed.{visited, visit_valid, visit_kept, no_frames, safe_accepted}
 use Rattle.module_check.specs.Accepted.{AreAcceptedOperators}
 use Rattle.module_check.specs.Constant.{each_may_stand}
 use Rattle.module_check.specs.Safe.{AreSafeOperators}

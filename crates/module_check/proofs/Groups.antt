@@ -9,8 +9,8 @@ use Rattle.validate_types.specs.declared.types.ValType.{ValType}
 use Rattle.validate_resources.specs.Context.{ModuleContext}
 use Rattle.validation_rules.proofs.Steps.{and_then_given}
 use Rattle.validate_stacks.specs.State.{BodyState}
-use Rattle.validate_body.specs.Begin.{DefinesEach}
-use Rattle.validate_body.specs.Start.{DefinesLocals}
+use Rattle.validate_operators.specs.Begin.{DefinesEach}
+use Rattle.validate_operators.specs.Start.{DefinesLocals}
 use Rattle.module_check.specs.Begin.{DefinesGroup, DefinesRead}
 use Rattle.module_check.proofs.Begun.{same_locals, both_same, none_or_some}
 

@@ -9,7 +9,7 @@ use Rattle.validate_visit.specs.declared.body.BodyKind.{BodyKind}
 use Rattle.validate_visit.specs.declared.body.BodyKind.TheVariants.{Function, Expression}
 use Rattle.validate_visit.specs.declared.op.Op.{Op}
 use Rattle.validate_resources.specs.Context.{ModuleContext}
-use Rattle.validate_body.specs.Runs.{without_offsets}
+use Rattle.validate_operators.specs.Runs.{without_offsets}
 use Rattle.module_check.specs.Accepted.{IsCode, IsAcceptedCode}
 
 module _ (p q : ℕ × ℕ) (l : List ℕ) (g : GroupNames) where

@@ -10,8 +10,8 @@ use Rattle.validate_visit.specs.declared.body.BodyKind.TheVariants.{Function, Ex
 use Rattle.validate_visit.specs.declared.op.Op.{Op}
 use Rattle.validate_resources.specs.Context.{ModuleContext}
 use Rattle.validate_stacks.specs.State.{BodyState}
-use Rattle.validate_body.specs.Begin.{HasLocals}
-use Rattle.validate_body.specs.Runs.{without_offsets, IsAcceptedBody}
+use Rattle.validate_operators.specs.Begin.{HasLocals}
+use Rattle.validate_operators.specs.Runs.{without_offsets, IsAcceptedBody}
 use Rattle.module_check.specs.Constant.{each_may_stand}
 
 -- the bytes are a body of this kind with these locals and operators: a constant expression has no locals

@@ -6,8 +6,8 @@ use Rattle.binary_operators.specs.declared.types.CanonicalTypes.{CanonicalTypes}
 use Rattle.validate_types.specs.declared.types.ValType.{ValType}
 use Rattle.validate_resources.specs.Context.{ModuleContext}
 use Rattle.validate_stacks.specs.State.{BodyState}
-use Rattle.validate_body.specs.Begin.{DefinesEach}
-use Rattle.validate_body.specs.Start.{DefinesLocals}
+use Rattle.validate_operators.specs.Begin.{DefinesEach}
+use Rattle.validate_operators.specs.Start.{DefinesLocals}
 
 -- the bytes begin with a group, which defines its locals, and these bytes are behind it
 pub record DefinesGroup

@@ -8,7 +8,7 @@ use Rattle.validate_visit.specs.declared.op.Op.{Op}
 use Rattle.validate_resources.specs.Context.{ModuleContext}
 use Rattle.validation_rules.specs.Static.{start}
 use Rattle.validate_stacks.specs.State.{BodyState}
-use Rattle.validate_body.specs.Runs.{IsSafe, IsSafeFrom}
+use Rattle.validate_operators.specs.Runs.{IsSafe, IsSafeFrom}
 use Rattle.module_check.specs.Accepted.{AreAcceptedOperators, IsAcceptedCode}
 
 -- From the state v on the bytes are accepted operators. They are type safe, if that is the start of a body.

@@ -1,9 +1,9 @@
 //! The check of one body.
 
 ghost use Rattle.std.specs.Prelude.{◌≡◌, ◌≢◌, ℕ, true, OnOk, IfErr};
-ghost use Rattle.validate_body.specs.Start.{state};
+ghost use Rattle.validate_operators.specs.Start.{state};
 ghost use Rattle.validate_stacks.specs.State.{IsStarting};
-ghost use Rattle.validate_body.specs.Begin.{IsBodyStart};
+ghost use Rattle.validate_operators.specs.Begin.{IsBodyStart};
 ghost use Rattle.module_check.specs.Accepted.{IsAcceptedCode};
 ghost use Rattle.module_check.specs.Constant.{may_stand};
 ghost use Rattle.module_check.specs.Refusals.{IsRefusal};
@@ -17,7 +17,7 @@ use crate::constant::ConstantPlace;
 use crate::operators::{check_operators, define_locals};
 use crate::verdict::{CheckError, Verdict};
 use binary_operators::{BinaryReader, CanonicalTypes, OperatorLists};
-use validate_body::OperatorValidator;
+use validate_operators::OperatorValidator;
 use validate_resources::WasmModuleResources;
 use validate_types::WasmFeatures;
 use validate_visit::BodyKind;

@@ -2,7 +2,7 @@
 
 use binary_operators::OperatorLists;
 use std::alloc::Global;
-use validate_body::OperatorValidator;
+use validate_operators::OperatorValidator;
 use validate_stacks::OperatorValidatorAllocations;
 use validate_types::{Flags, WasmFeatures};
 

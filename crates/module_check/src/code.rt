@@ -7,13 +7,13 @@ ghost use Rattle.binary_operators.specs.Integers.{unsigned};
 ghost use Rattle.binary_operators.specs.Unplaced.{unplaced};
 ghost use Rattle.binary_operators.specs.declared.error.Cause.TheVariants.{OutOfMemory};
 ghost use Rattle.module_check.specs.Begin.{DefinesRead};
-ghost use Rattle.validate_body.specs.Start.{state};
+ghost use Rattle.validate_operators.specs.Start.{state};
 ghost use Rattle.validate_stacks.specs.State.{IsStarting};
 
 use crate::operators::{define_locals, read_group};
 use crate::verdict::CheckError;
 use binary_operators::{BinaryReader, CanonicalTypes, OperatorLists, ReadError, read_operator};
-use validate_body::OperatorValidator;
+use validate_operators::OperatorValidator;
 use validate_resources::WasmModuleResources;
 use validate_types::ValType;
 use validate_visit::Op;

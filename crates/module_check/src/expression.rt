@@ -5,7 +5,7 @@ ghost use Rattle.validate_stacks.specs.State.{IsStarting};
 ghost use Rattle.validate_stacks.specs.Visits.{step_body, MayVisit, Meets};
 ghost use Rattle.validation_rules.specs.Static.{RowFails};
 ghost use Rattle.validation_rules.specs.Operators.{operator};
-ghost use Rattle.validate_body.specs.Start.{state, stacks_of};
+ghost use Rattle.validate_operators.specs.Start.{state, stacks_of};
 ghost use Rattle.module_check.specs.Accepted.{AreAcceptedOperators};
 ghost use Rattle.module_check.specs.Constant.{may_stand};
 ghost use Rattle.module_check.specs.Refusals.{IsRefusal};
@@ -16,7 +16,7 @@ use crate::constant::{ConstantPlace, check_constant};
 use crate::operators::{check_end, unclosed};
 use crate::verdict::CheckError;
 use binary_operators::{BinaryReader, OperatorLists, read_operator_into};
-use validate_body::OperatorValidator;
+use validate_operators::OperatorValidator;
 use validate_resources::WasmModuleResources;
 use validate_visit::{NumericOp, Op};
 

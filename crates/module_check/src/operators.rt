@@ -6,7 +6,7 @@ ghost use Rattle.validate_stacks.specs.State.{BodyState, IsStarting};
 ghost use Rattle.validate_stacks.specs.Visits.{step_body, MayVisit, Meets};
 ghost use Rattle.validation_rules.specs.Static.{RowFails};
 ghost use Rattle.validation_rules.specs.Operators.{operator};
-ghost use Rattle.validate_body.specs.Start.{state, stacks_of};
+ghost use Rattle.validate_operators.specs.Start.{state, stacks_of};
 ghost use Rattle.module_check.specs.Accepted.{AreAcceptedOperators};
 ghost use Rattle.module_check.specs.Begin.{DefinesGroup, DefinesRead};
 ghost use Rattle.module_check.specs.Constant.{may_stand};
@@ -22,7 +22,7 @@ use crate::verdict::CheckError;
 use binary_operators::{
     BinaryReader, CanonicalTypes, OperatorLists, ReadError, read_operator_into, read_value_type,
 };
-use validate_body::OperatorValidator;
+use validate_operators::OperatorValidator;
 use validate_resources::WasmModuleResources;
 use validate_types::ValType;
 use validate_visit::{NumericOp, Op};

@@ -8,8 +8,8 @@ use Rattle.validate_visit.specs.declared.op.Op.{Op}
 use Rattle.validation_rules.specs.Context.{Context}
 use Rattle.validation_rules.specs.Static.{Frame, State, step, state_before}
 use Rattle.validation_rules.specs.Operators.{operator, operators}
-use Rattle.validate_body.specs.Runs.{without_offsets}
-use Rattle.validate_body.proofs.Listed.{kinds, IsOrderedBelow, some_open, ordered_next}
+use Rattle.validate_operators.specs.Runs.{without_offsets}
+use Rattle.validate_operators.proofs.Listed.{kinds, IsOrderedBelow, some_open, ordered_next}
 use Rattle.opcheck_script.specs.Attempts.{Answer, IsAnswer, AreAnswers, EndsRun, RunEnds, accepted_of, accepted_at}
 use Rattle.script_parts.specs.Written.{is_staying, may_be_attempted, may_all_be_attempted}
 

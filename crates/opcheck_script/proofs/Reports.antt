@@ -5,7 +5,7 @@ use Rattle.validate_resources.specs.Context.{ModuleContext}
 use Rattle.validate_visit.specs.declared.op.Op.{Op}
 use Rattle.validate_stacks.specs.State.{BodyState}
 use Rattle.validation_rules.specs.Static.{State}
-use Rattle.validate_body.specs.Runs.{body_before, AreHeightsAfter, IsRefusedAt}
+use Rattle.validate_operators.specs.Runs.{body_before, AreHeightsAfter, IsRefusedAt}
 use Rattle.opcheck_script.specs.Reports.{RunsThrough}
 
 -- what holds of the lists that are kept

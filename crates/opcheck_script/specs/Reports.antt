@@ -13,8 +13,8 @@ use Rattle.validate_visit.specs.declared.frame.BlockType.{BlockType}
 use Rattle.validate_visit.specs.declared.op.Op.{Op}
 use Rattle.validate_stacks.specs.State.{BodyState}
 use Rattle.validation_rules.specs.Static.{State, start}
-use Rattle.validate_body.specs.Begin.{HasLocals, CannotBegin, without_places}
-use Rattle.validate_body.specs.Runs.{without_offsets, body_before, AreHeightsAfter, IsRefusedAt, IsSafeFrom}
+use Rattle.validate_operators.specs.Begin.{HasLocals, CannotBegin, without_places}
+use Rattle.validate_operators.specs.Runs.{without_offsets, body_before, AreHeightsAfter, IsRefusedAt, IsSafeFrom}
 use Rattle.opcheck_script.specs.Attempts.{Attempted, RunsEach, accepted_of}
 use Rattle.opcheck_script.specs.declared.failure.BadScript.TheVariants.{Order, Module}
 use Rattle.opcheck_script.specs.declared.failure.Failure.{Failure}

@@ -16,7 +16,7 @@ use crate::failure::{BadScript, Failure};
 use crate::report::{Answers, Report};
 use script_reader::{BodyLine, Operators, Script};
 use std::alloc::Global;
-use validate_body::begin_body;
+use validate_operators::begin_body;
 use validate_resources::{ModuleDeclarations, ModuleLists};
 use validate_stacks::OperatorValidatorAllocations;
 use validate_types::WasmFeatures;

@@ -1,7 +1,7 @@
 //! Bodies of scripts, checked by the validator's own calls.
 
 ghost use Rattle.std.specs.Prelude.{◌≡◌, None};
-ghost use Rattle.validate_body.specs.Start.{state, stacks_of};
+ghost use Rattle.validate_operators.specs.Start.{state, stacks_of};
 ghost use Rattle.validate_stacks.specs.State.{IsStarting, IsValidBody};
 ghost use Rattle.validate_stacks.specs.Visits.{MayVisit};
 
@@ -15,7 +15,7 @@ use odd_lookups::{Check, PairedLists, WantingLists};
 use opcheck_script::module_lists;
 use script_reader::{BodyLine, Operators, Script, read_script};
 use std::alloc::{AllocError, Global};
-use validate_body::{OperatorValidator, try_op};
+use validate_operators::{OperatorValidator, try_op};
 use validate_resources::{ModuleLists, WasmModuleResources};
 use validate_types::{Error, WasmFeatures};
 use validate_visit::{LocalGroup, Op};

@@ -2,8 +2,8 @@
 
 ghost use Rattle.std.specs.Prelude.{◌≡◌, true, []};
 ghost use Rattle.std.specs.List.{list_all};
-ghost use Rattle.validate_body.specs.Runs.{without_offsets};
-ghost use Rattle.validate_body.specs.Start.{state};
+ghost use Rattle.validate_operators.specs.Runs.{without_offsets};
+ghost use Rattle.validate_operators.specs.Start.{state};
 ghost use Rattle.validate_stacks.specs.State.{IsStarting};
 ghost use Rattle.validate_visit.specs.Immediates.{is_module_op};
 ghost use Rattle.validate_visit.specs.Order.{is_well_ordered_list};
@@ -13,7 +13,7 @@ use crate::snapshot::add_operand_types;
 use crate::tally::Tally;
 use crate::transcript::parts_of;
 use std::alloc::{AllocError, Global};
-use validate_body::{OperatorValidator, check_ops};
+use validate_operators::{OperatorValidator, check_ops};
 use validate_resources::WasmModuleResources;
 use validate_types::Error;
 use validate_visit::{Op, all_have_module_immediates, is_well_ordered};

@@ -1,13 +1,13 @@
 //! The types of operands that `operands_before` answers at a place of an accepted script.
 
-ghost use Rattle.validate_body.specs.Start.{state};
+ghost use Rattle.validate_operators.specs.Start.{state};
 ghost use Rattle.validate_stacks.specs.State.{IsStarting};
 
 use crate::snapshot::add_type;
 use crate::tally::Tally;
 use std::alloc::{AllocError, Global};
-use validate_body::OperatorValidator;
 use validate_func::operands_before;
+use validate_operators::OperatorValidator;
 use validate_resources::WasmModuleResources;
 use validate_types::ValType;
 use validate_visit::{Op, all_have_module_immediates, is_well_ordered};

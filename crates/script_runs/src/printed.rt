@@ -2,8 +2,8 @@
 
 ghost use Rattle.std.specs.Prelude.{◌≡◌, true, IfOk};
 ghost use Rattle.std.specs.List.{list_all};
-ghost use Rattle.validate_body.specs.Runs.{without_offsets};
-ghost use Rattle.validate_body.specs.Start.{state};
+ghost use Rattle.validate_operators.specs.Runs.{without_offsets};
+ghost use Rattle.validate_operators.specs.Start.{state};
 ghost use Rattle.validate_stacks.specs.State.{IsStarting};
 ghost use Rattle.validate_visit.specs.Immediates.{is_module_op};
 ghost use Rattle.validate_visit.specs.Order.{is_well_ordered_list};
@@ -12,7 +12,7 @@ use crate::tally::Tally;
 use opcheck_script::{Answers, print_report, run_operators};
 use script_reader::{BodyLine, Operators};
 use std::alloc::{AllocError, Global};
-use validate_body::{OperatorValidator, begin_body};
+use validate_operators::{OperatorValidator, begin_body};
 use validate_resources::WasmModuleResources;
 use validate_stacks::OperatorValidatorAllocations;
 use validate_types::{Error, WasmFeatures};

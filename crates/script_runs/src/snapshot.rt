@@ -1,7 +1,7 @@
 //! What can be seen of a validator: its open frames and its operands.
 
 use std::alloc::{AllocError, Global};
-use validate_body::OperatorValidator;
+use validate_operators::OperatorValidator;
 use validate_types::ValType;
 use validate_visit::{Frame, FrameKind};
 

@@ -1,7 +1,7 @@
 //! Operators that are attempted, and taken back.
 
 ghost use Rattle.std.specs.Prelude.{◌≡◌, None};
-ghost use Rattle.validate_body.specs.Start.{state, stacks_of};
+ghost use Rattle.validate_operators.specs.Start.{state, stacks_of};
 ghost use Rattle.validate_stacks.specs.State.{IsStarting, IsValidBody};
 ghost use Rattle.validate_stacks.specs.Visits.{MayVisit};
 
@@ -11,7 +11,7 @@ use crate::tally::Tally;
 use crate::transcript::parts_of;
 use script_reader::{LineError, read_operator};
 use std::alloc::{AllocError, Global};
-use validate_body::OperatorValidator;
+use validate_operators::OperatorValidator;
 use validate_resources::WasmModuleResources;
 use validate_types::Error;
 use validate_visit::Op;

@@ -8,8 +8,8 @@ use Rattle.validation_rules.specs.Static.{step, start}
 use Rattle.validate_stacks.specs.Pops.{IsKept}
 use Rattle.validate_stacks.specs.State.{BodyState, body_context, IsStarting, IsValidBody}
 use Rattle.validate_stacks.specs.Steps.{frame_at}
-use Rattle.validate_body.specs.Runs.{body_before}
-use Rattle.validate_body.proofs.Accepted.{run_more}
+use Rattle.validate_operators.specs.Runs.{body_before}
+use Rattle.validate_operators.proofs.Accepted.{run_more}
 use Rattle.validate_func.specs.Functions.{state_from, function_state, Accepts, IsSound}
 
 module _ (md : ModuleContext) (first : FlatFrame) (v w : BodyState) (accepted items : List (Op × ℕ)) (p : Op × ℕ) (b c : Bool) (kept : IsKept v w) (listed : items ≡ accepted ++ p ∷ []) (row : step (body_context md v) (operator (body_context md v) p.0) v.present ≡ Some w.present) (is : c ≡ false) where

@@ -13,7 +13,7 @@ use Rattle.validation_rules.proofs.Below.{append-known}
 use Rattle.type_safety.specs.Machine.{Label, At}
 use Rattle.type_safety.specs.Theorem.{OperandsBelow, LabelsBelow, IsTypeSafe}
 use Rattle.validate_stacks.specs.State.{BodyState, body_context}
-use Rattle.validate_body.specs.Runs.{body_before, body_operators, IsSafeFrom}
+use Rattle.validate_operators.specs.Runs.{body_before, body_operators, IsSafeFrom}
 use Rattle.validate_func.specs.Operands.{operands_in, types_in, operands_of_labels, RunsHoldBelow, AreTypesOfRuns}
 
 module _ (cx : Context) where

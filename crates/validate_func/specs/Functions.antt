@@ -8,7 +8,7 @@ use Rattle.validation_rules.specs.Operators.{operator}
 use Rattle.validation_rules.specs.Static.{State, start, step, RowHolds, RowFails}
 use Rattle.validate_stacks.specs.State.{BodyState, body_context, IsStarting, IsValidBody}
 use Rattle.validate_stacks.specs.Steps.{frame_at}
-use Rattle.validate_body.specs.Runs.{body_before}
+use Rattle.validate_operators.specs.Runs.{body_before}
 
 -- a function validator over a lookup of this type
 pub record FunctionState (R : Type 0) : Type 0 where

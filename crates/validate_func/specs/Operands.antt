@@ -13,7 +13,7 @@ use Rattle.validate_stacks.specs.State.{BodyState, body_context}
 use Rattle.validate_stacks.specs.Steps.{all_operands, known_type}
 use Rattle.type_safety.specs.Machine.{Label, At, Run, initial_machine}
 use Rattle.type_safety.specs.Theorem.{OperandsBelow}
-use Rattle.validate_body.specs.Runs.{body_before, body_operators}
+use Rattle.validate_operators.specs.Runs.{body_before, body_operators}
 
 -- all operands of a state, the lowest first
 abbrev pub operands_in : State → List MaybeType

@@ -5,15 +5,15 @@ ghost use Rattle.std.specs.Option.{option_copied};
 ghost use Rattle.validation_rules.specs.Static.{start, operand_count, frame_count};
 ghost use Rattle.validate_stacks.specs.State.{IsStarting};
 ghost use Rattle.validate_stacks.specs.Steps.{type_at_depth, frame_at};
-ghost use Rattle.validate_body.specs.Runs.{IsAcceptedBody, IsSafe};
-ghost use Rattle.validate_body.specs.Start.{state, current_kind, DefinesLocals, CannotDefine};
+ghost use Rattle.validate_operators.specs.Runs.{IsAcceptedBody, IsSafe};
+ghost use Rattle.validate_operators.specs.Start.{state, current_kind, DefinesLocals, CannotDefine};
 ghost use Rattle.validate_func.specs.Functions.{function_from, body_state, unmarked, IsStaticRun, Accepts, Refuses, Fails};
 ghost use Rattle.validate_func.specs.Operands.{types_in};
 
 use crate::operands::operand_types;
 use std::alloc::Global;
 use std::marker::Model;
-use validate_body::{OperatorValidator, try_op};
+use validate_operators::{OperatorValidator, try_op};
 use validate_resources::WasmModuleResources;
 use validate_stacks::OperatorValidatorAllocations;
 use validate_types::{Error, OutOfMemory, ValType};
@@ -36,7 +36,7 @@ impl<'a, 'resources, R: WasmModuleResources> Model for FuncValidator<'a, 'resour
 
     ghost Value = { FunctionState R };
 
-    ghost use Rattle.validate_body.specs.Start.{state};
+    ghost use Rattle.validate_operators.specs.Start.{state};
     ghost use Rattle.validate_func.specs.Functions.{function_state, IsSound};
 
     ghost view = { λ f. function_state f.resources.now f.first_frame (state f.validator) f.accepted.items

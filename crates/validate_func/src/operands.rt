@@ -9,12 +9,12 @@ ghost use Rattle.validation_rules.specs.Static.{start, operand_count};
 ghost use Rattle.validate_stacks.specs.Pops.{IsKept};
 ghost use Rattle.validate_stacks.specs.State.{IsStarting, IsValidBody};
 ghost use Rattle.validate_stacks.specs.Steps.{type_at_depth};
-ghost use Rattle.validate_body.specs.Runs.{without_offsets, body_before, IsAcceptedBody, IsRefusedAt};
-ghost use Rattle.validate_body.specs.Start.{state};
+ghost use Rattle.validate_operators.specs.Runs.{without_offsets, body_before, IsAcceptedBody, IsRefusedAt};
+ghost use Rattle.validate_operators.specs.Start.{state};
 ghost use Rattle.validate_func.specs.Operands.{types_in, types_before, AreTypesOfRuns};
 
 use std::alloc::Global;
-use validate_body::OperatorValidator;
+use validate_operators::OperatorValidator;
 use validate_resources::WasmModuleResources;
 use validate_types::{Error, OutOfMemory, ValType};
 use validate_visit::Op;
@@ -25,10 +25,10 @@ use validate_visit::Op;
 /// Where the whole list is accepted up to the outermost `end`, every run that stands before operator `k`
 /// holds as many operands, in order, each below the known type in its place.
 ///
-/// It refuses as [`validate_body::check_ops`] does, with the place of the refused operator. If there is no memory
+/// It refuses as [`validate_operators::check_ops`] does, with the place of the refused operator. If there is no memory
 /// for the answer, it answers `k` and an error at the offset of operator `k`, or at 0 if there is no such operator.
 ///
-/// Conditions: those of [`validate_body::check_ops`] on the validator and the list, and that the list has at least
+/// Conditions: those of [`validate_operators::check_ops`] on the validator and the list, and that the list has at least
 /// `k` operators.
 pub fn operands_before<R: WasmModuleResources>(
     alloc: Global,

@@ -1,1 +1,4 @@
 pub mod Memory
+pub mod Start
+pub mod Begin
+pub mod Runs

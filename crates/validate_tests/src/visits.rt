@@ -10,7 +10,7 @@ ghost use Rattle.wasmparser_validate.specs.Start.{state, stacks_of};
 
 use crate::expectations::{ample, expect};
 use std::process::Abort;
-use validate_body::begin_body;
+use validate_operators::begin_body;
 use wasmparser_validate::operators::{
     OperatorValidator, OperatorValidatorAllocations, WasmProposalValidator,
 };

@@ -1,6 +1,6 @@
 //! What is shown of the operators of a body: all of them, or what stands behind a refusal.
 
-ghost use Rattle.validate_body.specs.Start.{state};
+ghost use Rattle.validate_operators.specs.Start.{state};
 ghost use Rattle.validate_stacks.specs.State.{IsStarting};
 
 use crate::lines::Lines;
@@ -12,7 +12,7 @@ use crate::walk::{Stop, Walk, begin, walk_through};
 use crate::written::Written;
 use module_check::{LoadedModule, Verdict};
 use std::io;
-use validate_body::OperatorValidator;
+use validate_operators::OperatorValidator;
 use validate_resources::WasmModuleResources;
 use validate_stacks::OperatorValidatorAllocations;
 use validate_types::{Error, WasmFeatures};

@@ -6,7 +6,7 @@ use crate::options::Format;
 use crate::type_names::add_type;
 use crate::written::Written;
 use crate::{json, text};
-use validate_body::OperatorValidator;
+use validate_operators::OperatorValidator;
 use validate_types::ValType;
 use validate_visit::Op;
 

@@ -2,7 +2,7 @@
 
 use crate::given::Given;
 use std::alloc::Global;
-use validate_body::OperatorValidator;
+use validate_operators::OperatorValidator;
 use validate_types::OutOfMemory;
 use validate_visit::Frame;
 

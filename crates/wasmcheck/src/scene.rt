@@ -8,7 +8,7 @@ use crate::origins::Origins;
 use crate::type_names::add_type;
 use crate::written::Written;
 use crate::{json, text};
-use validate_body::OperatorValidator;
+use validate_operators::OperatorValidator;
 use validate_resources::WasmModuleResources;
 use validate_stacks::blocks::{params, results};
 use validate_types::{MaybeType, Refusal, ValType};

@@ -1,7 +1,7 @@
 //! A body that is walked through once more, operator by operator, to show what lies on its stacks.
 
 ghost use Rattle.std.specs.Prelude.{◌≡◌, None, OnOk};
-ghost use Rattle.validate_body.specs.Start.{state};
+ghost use Rattle.validate_operators.specs.Start.{state};
 ghost use Rattle.validate_stacks.specs.State.{IsStarting, IsValidBody};
 
 use crate::given::given_by;
@@ -10,7 +10,7 @@ use crate::operators::{Code, name_at};
 use crate::origins::Origins;
 use module_check::{CheckError, CodeReader, OperatorLists, ReadError, Verdict};
 use std::alloc::Global;
-use validate_body::OperatorValidator;
+use validate_operators::OperatorValidator;
 use validate_resources::WasmModuleResources;
 use validate_types::{Error, OutOfMemory, WasmFeatures};
 use validate_visit::{BodyKind, Frame};

@@ -2,7 +2,7 @@
 use Rattle.std.proofs.Common.{◌∙◌, ap, subst}
 use Rattle.module_check.specs.Begin.{DefinesRead}
 use Rattle.module_rules.specs.Features.{operator_features}
-use Rattle.validate_body.specs.Start.{state, IsFuncStart}
+use Rattle.validate_operators.specs.Start.{state, IsFuncStart}
 use Rattle.validate_resources.specs.Kept.{declared_lists}
 use Rattle.validate_resources.specs.Lists.{context_of}
 use Rattle.validate_stacks.specs.State.{IsStarting}

@@ -1,7 +1,7 @@
 -- What was checked and accepted is the code of the body; what was refused is none.
 use Rattle.module_check.specs.Constant.{may_stand}
 use Rattle.module_check.specs.Refusals.{IsRefusal}
-use Rattle.validate_body.specs.Start.{state}
+use Rattle.validate_operators.specs.Start.{state}
 use Rattle.module_check.proofs.Begun.{given_ok, refused_for, not_started}
 use Rattle.module_check.proofs.body.check_body.Goals as goal
 

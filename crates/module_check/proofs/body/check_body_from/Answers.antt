@@ -1,6 +1,6 @@
 -- What was read and accepted is the code of the body; where something isn't, the bytes are none.
 use Rattle.std.proofs.lemmas.Result.{err_from_is_err_and}
-use Rattle.validate_body.specs.Start.{state}
+use Rattle.validate_operators.specs.Start.{state}
 use Rattle.module_check.specs.Constant.{may_stand}
 use Rattle.module_check.proofs.Begun.{function_code, expression_code, no_groups, no_function, no_expression}
 use Rattle.module_check.proofs.body.check_body_from.Goals as goal

@@ -3,7 +3,7 @@ use Rattle.std.proofs.Common.{Some, [], ap, sym, length, arith, rules, inl, inr,
 use Rattle.std.proofs.lemmas.Result.{err_from_is_err_and}
 use Rattle.binary_operators.specs.Unplaced.{unplaced}
 use Rattle.binary_operators.specs.Unread.{Unread}
-use Rattle.validate_body.specs.Start.{state}
+use Rattle.validate_operators.specs.Start.{state}
 use Rattle.module_check.specs.Constant.{may_stand}
 use Rattle.module_check.specs.Refusals.{IsRefusal}
 use Rattle.module_check.proofs.Begun.{then_ok, then_err}

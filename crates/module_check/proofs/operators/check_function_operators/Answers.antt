@@ -1,6 +1,6 @@
 -- An operator more is read and accepted, and at the end all of them are.
 use Rattle.std.proofs.Common.{None, ◌≡◌, ◌∙◌, sym, subst, length, arith}
-use Rattle.validate_body.specs.Start.{state}
+use Rattle.validate_operators.specs.Start.{state}
 use Rattle.module_check.specs.Accepted.{AreAcceptedOperators}
 use Rattle.module_check.specs.Constant.{may_stand}
 use Rattle.module_check.specs.Refusals.{IsRefusal}

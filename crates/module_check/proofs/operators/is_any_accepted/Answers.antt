@@ -3,7 +3,7 @@ use Rattle.std.proofs.Common.{◌≡◌, [], None, rules}
 use Rattle.validate_stacks.specs.Visits.{step_body}
 use Rattle.validation_rules.specs.Static.{RowFails}
 use Rattle.validation_rules.specs.Operators.{operator}
-use Rattle.validate_body.specs.Start.{state}
+use Rattle.validate_operators.specs.Start.{state}
 use Rattle.module_check.specs.Accepted.{AreAcceptedOperators}
 use Rattle.module_check.specs.Constant.{may_stand}
 use Rattle.module_check.specs.Refusals.{IsRefusal}

@@ -3,7 +3,7 @@ use Rattle.std.proofs.Common.{None, IfSome, sym, subst}
 use Rattle.binary_operators.specs.Unread.{Unread}
 use Rattle.validate_stacks.specs.Attempts.{Stacked}
 use Rattle.validate_stacks.specs.Visits.{MayVisit}
-use Rattle.validate_body.specs.Start.{state, stacks_of}
+use Rattle.validate_operators.specs.Start.{state, stacks_of}
 use Rattle.module_check.specs.Accepted.{AreAcceptedOperators}
 use Rattle.module_check.specs.Constant.{may_stand}
 use Rattle.module_check.specs.Refusals.{IsRefusal}

@@ -7,8 +7,8 @@ use Rattle.validate_stacks.specs.State.{body_context}
 use Rattle.validation_rules.specs.Context.{Context}
 use Rattle.validation_rules.specs.Static.{State}
 use Rattle.validate_func.specs.Functions.{FunctionState}
-use Rattle.validate_body.specs.Runs.{IsSafeFrom}
-use Rattle.validate_body.proofs.Listed.{IsOrderedBelow, at_place}
+use Rattle.validate_operators.specs.Runs.{IsSafeFrom}
+use Rattle.validate_operators.proofs.Listed.{IsOrderedBelow, at_place}
 use Rattle.opcheck_script.specs.Attempts.{Answer, IsAnswer, AreAnswers, EndsRun, RunsEach, accepted_of, accepted_at}
 use Rattle.opcheck_script.proofs.Attempts.{next_answered, accepted_rows, none_accepted, accepted_more, open_at, still_ordered, attempted_flat, ends_at, short_of_memory, when_ok}
 use Rattle.opcheck_script.proofs.body.answer_each.Given.{Over}

@@ -2,7 +2,7 @@
 -- rest of the list is in order below its frames.
 use Rattle.std.proofs.Common.{◌≡◌, length, drop}
 use Rattle.validate_stacks.specs.State.{body_context}
-use Rattle.validate_body.proofs.Listed.{IsOrderedBelow}
+use Rattle.validate_operators.proofs.Listed.{IsOrderedBelow}
 use Rattle.opcheck_script.specs.Attempts.{AreAnswers, accepted_of}
 use Rattle.opcheck_script.proofs.body.answer_each.Given as goal
 

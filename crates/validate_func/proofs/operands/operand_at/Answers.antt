@@ -1,6 +1,6 @@
 use Rattle.std.proofs.Common.{◌<◌, length, sym, ◌∙◌, arith}
 use Rattle.validate_stacks.specs.Steps.{all_operands}
-use Rattle.validate_body.specs.Start.{state}
+use Rattle.validate_operators.specs.Start.{state}
 use Rattle.validate_func.proofs.Types.{length-all, type_there}
 use Rattle.validate_func.proofs.operands.operand_at.Goals as goal
 

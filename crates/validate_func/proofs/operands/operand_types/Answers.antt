@@ -1,6 +1,6 @@
 use Rattle.std.proofs.Common.{◌≤◌, ◌-◌, ◌++◌, ◌∷◌, [], length, sym, ap, ◌∙◌, arith}
 use Rattle.validate_stacks.specs.Steps.{all_operands}
-use Rattle.validate_body.specs.Start.{state}
+use Rattle.validate_operators.specs.Start.{state}
 use Rattle.validate_func.proofs.Types.{length-all, types_more, types_none}
 use Rattle.validate_func.proofs.operands.operand_types.Goals as goal
 

@@ -1,8 +1,8 @@
 use Rattle.std.proofs.Common.{◌≡◌, Some, sym, subst, add-one, arith}
 use Rattle.validate_stacks.proofs.Validity.{kept_on}
-use Rattle.validate_body.specs.Runs.{body_before}
-use Rattle.validate_body.specs.Start.{state}
-use Rattle.validate_body.proofs.Listed.{refused_row, accepted_next, ordered_on, safe_accepted}
+use Rattle.validate_operators.specs.Runs.{body_before}
+use Rattle.validate_operators.specs.Start.{state}
+use Rattle.validate_operators.proofs.Listed.{refused_row, accepted_next, ordered_on, safe_accepted}
 use Rattle.validate_func.specs.Operands.{AreTypesOfRuns}
 use Rattle.validate_func.proofs.Held.{types_of_runs}
 use Rattle.validate_func.proofs.operands.operands_before.Goals as goal

@@ -2,9 +2,9 @@
 use Rattle.std.proofs.Common.{◌≡◌, Some, drop}
 use Rattle.validate_stacks.specs.Pops.{IsKept}
 use Rattle.validate_stacks.specs.State.{IsValidBody}
-use Rattle.validate_body.specs.Runs.{body_before}
-use Rattle.validate_body.specs.Start.{state}
-use Rattle.validate_body.proofs.Listed.{IsOrderedBelow}
+use Rattle.validate_operators.specs.Runs.{body_before}
+use Rattle.validate_operators.specs.Start.{state}
+use Rattle.validate_operators.proofs.Listed.{IsOrderedBelow}
 use Rattle.validate_func.proofs.operands.operands_before.Given as goal
 
 abbrev pub invariant-loop-index : goal.invariant-loop-index

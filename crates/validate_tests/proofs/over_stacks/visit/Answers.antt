@@ -1,4 +1,4 @@
-use Rattle.validate_body.proofs.Listed.{visit_valid, visit_kept}
+use Rattle.validate_operators.proofs.Listed.{visit_valid, visit_kept}
 use Rattle.validate_tests.proofs.over_stacks.visit.Goals as goal
 
 pub returns-clause-valid : goal.returns-clause-valid

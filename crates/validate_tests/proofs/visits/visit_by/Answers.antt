@@ -1,5 +1,5 @@
 use Rattle.wasmparser_validate.specs.Start.{state}
-use Rattle.validate_body.proofs.Listed.{visit_valid, visit_kept}
+use Rattle.validate_operators.proofs.Listed.{visit_valid, visit_kept}
 use Rattle.validate_tests.proofs.visits.visit_by.Goals as goal
 
 pub returns-clause-valid : goal.returns-clause-valid

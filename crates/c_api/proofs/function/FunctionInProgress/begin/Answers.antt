@@ -1,7 +1,7 @@
 -- It starts in the module's lookup, under its proposals.
 use Rattle.std.proofs.Common.{◌∙◌, sym, ap, subst}
-use Rattle.validate_body.specs.Begin.{IsBodyStart, CannotStart}
-use Rattle.validate_body.specs.Start.{state}
+use Rattle.validate_operators.specs.Begin.{IsBodyStart, CannotStart}
+use Rattle.validate_operators.specs.Start.{state}
 use Rattle.validate_func.specs.Functions.{function_from}
 use Rattle.validate_stacks.specs.State.{IsStarting}
 use Rattle.c_api.specs.Functions.{InProgress, module_under}

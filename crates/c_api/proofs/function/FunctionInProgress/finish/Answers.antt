@@ -1,9 +1,9 @@
 -- The rows of all accepted operators hold, so their list is type safe.
 use Rattle.std.proofs.Common.{◌∙◌, ap, subst}
-use Rattle.validate_body.proofs.Accepted.{accepted_whole}
-use Rattle.validate_body.proofs.Listed.{safe_accepted}
-use Rattle.validate_body.specs.Runs.{IsAcceptedBody}
-use Rattle.validate_body.specs.Start.{state}
+use Rattle.validate_operators.proofs.Accepted.{accepted_whole}
+use Rattle.validate_operators.proofs.Listed.{safe_accepted}
+use Rattle.validate_operators.specs.Runs.{IsAcceptedBody}
+use Rattle.validate_operators.specs.Start.{state}
 use Rattle.validate_func.specs.Functions.{state_from}
 use Rattle.validate_resources.specs.Context.{IsLawful}
 use Rattle.c_api.specs.Functions.{InProgress, module_under}

@@ -1,9 +1,9 @@
 use Rattle.std.proofs.Common.{ap, ◌∙◌, subst}
-use Rattle.validate_body.specs.Runs.{IsAcceptedBody}
-use Rattle.validate_body.specs.Start.{state}
-use Rattle.validate_body.proofs.Listed.{safe_accepted}
+use Rattle.validate_operators.specs.Runs.{IsAcceptedBody}
+use Rattle.validate_operators.specs.Start.{state}
+use Rattle.validate_operators.proofs.Listed.{safe_accepted}
 use Rattle.validate_func.specs.Functions.{FunctionState, state_from}
-use Rattle.validate_body.proofs.Accepted.{accepted_whole}
+use Rattle.validate_operators.proofs.Accepted.{accepted_whole}
 use Rattle.validate_func.proofs.function.FuncValidator.finish.Goals as goal
 
 pub returns-clause-rows : goal.returns-clause-rows

@@ -4,8 +4,8 @@ use Rattle.validate_visit.specs.declared.op.Op.{Op}
 use Rattle.validation_rules.specs.Operators.{operator}
 use Rattle.validation_rules.specs.Static.{step}
 use Rattle.validate_stacks.specs.State.{BodyState, body_context}
-use Rattle.validate_body.specs.Start.{state}
-use Rattle.validate_body.proofs.Listed.{visited, not_visited, visit_offset}
+use Rattle.validate_operators.specs.Start.{state}
+use Rattle.validate_operators.proofs.Listed.{visited, not_visited, visit_offset}
 use Rattle.validate_func.specs.Functions.{FunctionState, function_state, unmarked, IsStaticRun, Accepts, Refuses}
 use Rattle.validate_func.proofs.Accepted.{sound_accepted, accepts}
 use Rattle.validate_func.proofs.function.FuncValidator.visit.Given.{Over}

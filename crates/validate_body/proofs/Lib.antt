@@ -1,6 +1,0 @@
-pub mod Locals
-pub mod Params
-pub mod Listed
-pub mod Accepted
-pub mod Attempted
-pub mod CountedRuns

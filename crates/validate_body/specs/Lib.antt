@@ -1,3 +1,0 @@
-pub mod Start
-pub mod Begin
-pub mod Runs

@@ -21,8 +21,8 @@ use validate_operators::OperatorValidator;
 use validate_resources::WasmModuleResources;
 use validate_visit::BlockType::Empty;
 use validate_visit::{
-    ControlOp, IntegerBinaryOp, IntegerComparisonOp, IntegerType, MemArg, MemArgTarget, NumericOp,
-    Op,
+    ControlOp, IntegerBinaryOp, IntegerComparisonOp, IntegerType, MemArg, MemArgTarget, MemoryOp,
+    NumericOp, Op,
 };
 
 /// An operator, as far as its first byte tells it.
@@ -151,6 +151,26 @@ pub(crate) fn passes<'a, R: WasmModuleResources>(
     false
 }
 
+/// [`passes`] of an operator on memories.
+#[inline(always)]
+pub(crate) fn passes_memory<'a, R: WasmModuleResources>(
+    v: &mut OperatorValidator,
+    resources: &R,
+    reader: &mut BinaryReader<'a>,
+    rest: BinaryReader<'a>,
+    op: MemoryOp,
+) -> bool
+    requires visit { MayVisit (R.context resources.now) (stacks_of v.old) }
+    requires like { BeginLike reader.old.left (Op.Memory op) rest.left }
+    ensures { Passes (R.context resources.now) result reader.old reader.new (stacks_of v.old) (stacks_of v.new) }
+{
+    if v.memory_passes_at_once(resources, &op) {
+        *reader = rest;
+        return true;
+    }
+    false
+}
+
 /// The byte behind a code.
 #[derive(Drop)]
 struct NextByte<'a> {
@@ -227,8 +247,8 @@ fn passes_near<R: WasmModuleResources>(
         target: MemArgTarget::Memory(0),
     };
     match access_op(u32::from(code), memarg) {
-        Some(op) => v.passes_at_once(resources, &op),
-        None => false,
+        Some(Op::Memory(op)) => v.memory_passes_at_once(resources, &op),
+        _ => false,
     }
 }
 

@@ -11,7 +11,7 @@ ghost use Rattle.validate_operators.specs.Start.{stacks_of};
 ghost use Rattle.validate_stacks.specs.Visits.{MayVisit};
 ghost use Rattle.module_check.specs.Turns.{Passes};
 
-use crate::common::passes;
+use crate::common::{passes, passes_memory};
 use binary_operators::{
     BinaryReader, Form, access_op, conversion_op, form_of, numeric_op, read_memarg,
 };
@@ -83,8 +83,8 @@ fn passes_access<'a, R: WasmModuleResources>(
         return false;
     };
     match access_op(u32::from(code), place) {
-        Some(op) => passes(v, resources, reader, rest, op),
-        None => false,
+        Some(Op::Memory(op)) => passes_memory(v, resources, reader, rest, op),
+        _ => false,
     }
 }
 

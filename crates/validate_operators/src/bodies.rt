@@ -234,7 +234,7 @@ pub(crate) fn gated_reference<A: Refused, R: WasmModuleResources>(
 }
 
 /// An operator on memories.
-#[inline(never)]
+#[inline(always)]
 pub(crate) fn gated_memory<A: Refused, R: WasmModuleResources>(
     body: Body<'_, '_, R>,
     op: &MemoryOp,
@@ -244,6 +244,18 @@ pub(crate) fn gated_memory<A: Refused, R: WasmModuleResources>(
 {
     find_open(body.stacks, op.gate())?;
     memory_operator(body, *op)
+}
+
+/// [`gated_memory`], called: an operator of any kind calls it.
+#[inline(never)]
+pub(crate) fn memory_by_call<A: Refused, R: WasmModuleResources>(
+    body: Body<'_, '_, R>,
+    op: &MemoryOp,
+) -> Result<(), A>
+    requires { MayBegin R.context body }
+    ensures { Makes R.context A.tells (λ cx. operator cx (Op.Memory op.now)) body.entry result body.exit }
+{
+    gated_memory(body, op)
 }
 
 /// An atomic operator on memories.

@@ -3,6 +3,7 @@
 
 ghost use Rattle.std.specs.Prelude.{◌≡◌, false, OnErr};
 ghost use Rattle.validate_types.specs.Told.{IsRowRefused};
+ghost use Rattle.validate_visit.specs.declared.op.Op.{Op};
 ghost use Rattle.validation_rules.specs.Operators.{operator};
 ghost use Rattle.validate_stacks.specs.AtOnce.{MeetsAtOnce};
 ghost use Rattle.validate_stacks.specs.Bodies.{MayBegin, Makes};
@@ -14,6 +15,7 @@ ghost use Rattle.validate_operators.specs.Memory.{TakesNoMemory};
 use crate::bodies::{
     control, gated_array, gated_atomic, gated_continuation, gated_convert, gated_exception,
     gated_memory, gated_numeric, gated_reference, gated_shared, gated_struct, gated_table,
+    memory_by_call,
 };
 use crate::parts::end_part;
 use crate::popped::popped_before;
@@ -21,7 +23,7 @@ use validate_resources::WasmModuleResources;
 use validate_shapes::checked::placed;
 use validate_stacks::{Body, Stacks};
 use validate_types::{Error, NotDone, Refused, Told};
-use validate_visit::Op;
+use validate_visit::{MemoryOp, Op};
 
 /// The body of an operator: accepted exactly where its row holds, memory aside, with the static step. A refusal, told or
 /// not, changes nothing. A frame has to be open.
@@ -39,7 +41,7 @@ fn any_operator<A: Refused, R: WasmModuleResources>(body: Body<'_, '_, R>, op: &
         Op::Control(op) => control(body, op),
         Op::Numeric(op) => gated_numeric(body, op),
         Op::Convert(op) => gated_convert(body, op),
-        Op::Memory(op) => gated_memory(body, op),
+        Op::Memory(op) => memory_by_call(body, op),
         Op::Atomic(op) => gated_atomic(body, op),
         Op::Reference(op) => gated_reference(body, op),
         Op::Table(op) => gated_table(body, op),
@@ -69,11 +71,36 @@ fn operator_by_call<A: Refused, R: WasmModuleResources>(
 /// The fast lane of [`check_operator`]: whether the body of an operator was done. False, with nothing
 /// changed, where it was refused or wanted memory.
 #[inline(always)]
-pub fn operator_at_once<R: WasmModuleResources>(stacks: &mut Stacks, resources: &R, op: &Op) -> bool
+pub(crate) fn operator_at_once<R: WasmModuleResources>(
+    stacks: &mut Stacks,
+    resources: &R,
+    op: &Op,
+) -> bool
     requires { MayVisit (R.context resources.now) stacks.old }
     ensures { MeetsAtOnce (R.context resources.now) (λ cx. operator cx op.now) stacks.old result stacks.new }
 {
     let answer: Result<(), NotDone> = any_operator(
+        Body {
+            stacks: &mut *stacks,
+            resources,
+        },
+        op,
+    );
+    answer.is_ok()
+}
+
+/// [`operator_at_once`] of an operator on memories, whose body stands in the caller.
+#[inline(always)]
+pub(crate) fn memory_at_once<R: WasmModuleResources>(
+    stacks: &mut Stacks,
+    resources: &R,
+    op: &MemoryOp,
+) -> bool
+    requires { MayVisit (R.context resources.now) stacks.old }
+    ensures { MeetsAtOnce (R.context resources.now) (λ cx. operator cx (Op.Memory op.now)) stacks.old result
+        stacks.new }
+{
+    let answer: Result<(), NotDone> = gated_memory(
         Body {
             stacks: &mut *stacks,
             resources,
@@ -122,7 +149,7 @@ pub fn check_operator<R: WasmModuleResources>(
 /// [`check_operator`], which leaves nothing where it refuses.
 #[cold]
 #[inline(never)]
-pub fn try_operator<R: WasmModuleResources>(
+pub(crate) fn try_operator<R: WasmModuleResources>(
     stacks: &mut Stacks,
     resources: &R,
     offset: u64,

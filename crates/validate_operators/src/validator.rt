@@ -17,13 +17,13 @@ ghost use Rattle.validate_resources.specs.Context.{ModuleContext, Valid, signatu
 ghost use Rattle.validate_stacks.specs.Steps.{body_with_frame, empty_body, type_at_depth, frame_at, label_at};
 ghost use Rattle.validate_operators.specs.Start.{state, stacks_of, func_start, const_start, IsFuncStart, HasTooManyParams, DefinesLocals, CannotDefine};
 
-use crate::operator::{check_operator, operator_at_once, try_operator};
+use crate::operator::{check_operator, memory_at_once, operator_at_once, try_operator};
 use validate_locals::Locals;
 use validate_resources::WasmModuleResources;
 use validate_resources::kinds::{expected_func_type, func_type_of};
 use validate_stacks::{OperatorValidatorAllocations, Stacks};
 use validate_types::{Error, FuncType, ValType, WasmFeatures};
-use validate_visit::{BlockType, Frame, FrameKind, Op};
+use validate_visit::{BlockType, Frame, FrameKind, MemoryOp, Op};
 
 /// The validator of a body (wasmparser's `OperatorValidator`). Contracts see what it stands for by
 /// `state` of `specs/`.
@@ -238,6 +238,21 @@ impl OperatorValidator {
             result (stacks_of self.new) }
     {
         operator_at_once(&mut self.stacks, resources, op)
+    }
+
+    /// [`OperatorValidator::passes_at_once`] of an operator on memories: for readers whose bytes tell that it is one, since
+    /// its body isn't called.
+    #[inline(always)]
+    pub fn memory_passes_at_once<R: WasmModuleResources>(
+        &mut self,
+        resources: &R,
+        op: &MemoryOp,
+    ) -> bool
+        requires { MayVisit (R.context resources.now) (stacks_of self.old) }
+        ensures { MeetsAtOnce (R.context resources.now) (λ cx. operator cx (Op.Memory op.now))
+            (stacks_of self.old) result (stacks_of self.new) }
+    {
+        memory_at_once(&mut self.stacks, resources, op)
     }
 
     /// [`OperatorValidator::check_slowly`], which leaves nothing where it refuses.

@@ -3,6 +3,7 @@
 
 ghost use Rattle.std.specs.Prelude.{◌≡◌, None};
 ghost use Rattle.validation_rules.specs.Operators.{operator};
+ghost use Rattle.validate_stacks.specs.AtOnce.{MeetsAtOnce};
 ghost use Rattle.validate_stacks.specs.Pops.{IsKept};
 ghost use Rattle.validate_stacks.specs.State.{IsStarting, IsValidBody};
 ghost use Rattle.validate_stacks.specs.Visits.{MayVisit, Meets};
@@ -111,6 +112,18 @@ fn check_by_group<'a, C: OperatorChecks<'a>>(checks: &mut C, op: Op<'a>) -> C::O
     }
 }
 
+/// Whether an operator passes at once, by the call of its own where its group has one.
+fn passes_at_once<R: WasmModuleResources>(v: &mut OperatorValidator, lists: &R, op: &Op<'_>) -> bool
+    requires { MayVisit (R.context lists.now) (stacks_of v.old) }
+    ensures { MeetsAtOnce (R.context lists.now) (λ cx. operator cx op.now) (stacks_of v.old) result
+        (stacks_of v.new) }
+{
+    match op {
+        Op::Memory(op) => v.memory_passes_at_once(lists, op),
+        _ => v.passes_at_once(lists, op),
+    }
+}
+
 /// The check of an operator by its two halves.
 fn check_in_halves<R: WasmModuleResources>(
     v: &mut OperatorValidator,
@@ -120,7 +133,7 @@ fn check_in_halves<R: WasmModuleResources>(
     requires { MayVisit (R.context lists.now) (stacks_of v.old) }
     ensures { Meets (R.context lists.now) (λ cx. operator cx op.now) 7 (state v.old) result (state v.new) }
 {
-    if v.passes_at_once(lists, op) {
+    if passes_at_once(v, lists, op) {
         return Ok(());
     }
     v.check_slowly(lists, 7, op)

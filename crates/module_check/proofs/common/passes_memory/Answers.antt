@@ -1,0 +1,13 @@
+-- The operator that is handed in passes at once, or nothing is changed.
+use Rattle.validate_visit.specs.declared.op.Op.TheVariants.{Memory}
+use Rattle.validate_operators.specs.Start.{stacks_of}
+use Rattle.module_check.proofs.Turned.{at_once, not_at_once}
+use Rattle.module_check.proofs.common.passes_memory.Goals as goal
+
+pub returns-then-memory_passes_at_once : goal.returns-then-memory_passes_at_once
+returns-then-memory_passes_at_once g c =
+    at_once (g.R.WasmModuleResources.context c.args.resources.now) (Memory c.args.op) c.args.reader.now c.args.rest (stacks_of c.args.v.now) (stacks_of c.memory_passes_at_once.new.self) c.memory_passes_at_once.result c.requires.like c.memory_passes_at_once.ensures c.if-memory_passes_at_once.true
+
+pub returns : goal.returns
+returns g c =
+    not_at_once (g.R.WasmModuleResources.context c.args.resources.now) (Memory c.args.op) c.args.reader.now (stacks_of c.args.v.now) (stacks_of c.memory_passes_at_once.new.self) c.memory_passes_at_once.result c.memory_passes_at_once.ensures c.if-memory_passes_at_once.false

@@ -9,15 +9,15 @@ use Rattle.validate_tests.proofs.visits.check_in_halves.Goals as goal
 pub returns-then-passes_at_once : goal.returns-then-passes_at_once
 returns-then-passes_at_once g c =
     let md = g.R.WasmModuleResources.context c.args.lists.now in
-    done_at_once md (λ cx. operator cx c.args.op.now) (stacks_of c.args.v.now) (stacks_of c.passes_at_once.new.self) c.passes_at_once.result c.passes_at_once.ensures c.if-passes_at_once.true 7
+    done_at_once md (λ cx. operator cx c.args.op.now) (stacks_of c.args.v.now) (stacks_of c.passes_at_once.new.v) c.passes_at_once.result c.passes_at_once.ensures c.if-passes_at_once.true 7
 
 pub check_slowly-requires : goal.check_slowly-requires
 check_slowly-requires g c =
     let md = g.R.WasmModuleResources.context c.args.lists.now in
-    let same = same_at_once md (λ cx. operator cx c.args.op.now) (stacks_of c.args.v.now) (stacks_of c.passes_at_once.new.self) c.passes_at_once.result c.passes_at_once.ensures c.if-passes_at_once.false in
+    let same = same_at_once md (λ cx. operator cx c.args.op.now) (stacks_of c.args.v.now) (stacks_of c.passes_at_once.new.v) c.passes_at_once.result c.passes_at_once.ensures c.if-passes_at_once.false in
     subst (MayVisit md) (sym same) c.requires
 
 pub returns : goal.returns
 returns g c =
     let md = g.R.WasmModuleResources.context c.args.lists.now in
-    row_before md (λ cx. operator cx c.args.op.now) 7 (stacks_of c.args.v.now) (stacks_of c.passes_at_once.new.self) c.passes_at_once.result c.check_slowly.result _ c.passes_at_once.ensures c.if-passes_at_once.false c.check_slowly.ensures.row
+    row_before md (λ cx. operator cx c.args.op.now) 7 (stacks_of c.args.v.now) (stacks_of c.passes_at_once.new.v) c.passes_at_once.result c.check_slowly.result _ c.passes_at_once.ensures c.if-passes_at_once.false c.check_slowly.ensures.row

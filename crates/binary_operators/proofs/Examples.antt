@@ -1,5 +1,5 @@
 -- Numbers, types and operators in bytes, computed. The integers are those of the standard's own notes.
-use Rattle.std.proofs.Common.{◌≡◌, negsuc, true, false, [], ◌∷◌, replicate, Some, None, refl}
+use Rattle.std.proofs.Common.{◌≡◌, negsuc, true, false, [], ◌∷◌, replicate, Some, None, refl, ap, get_or, arith}
 use Rattle.binary_operators.specs.Atomics.{atomic_at, accessed, field_accesses}
 use Rattle.binary_operators.specs.Codes.{plain_ops, index_ops, two_index_ops, typed_index_ops, two_type_ops, heap_ops, block_ops, access_ops}
 use Rattle.binary_operators.specs.Forms.{forms, forms_fb, forms_fc, forms_fe}
@@ -10,6 +10,7 @@ use Rattle.binary_operators.specs.Values.{float32, list_of}
 use Rattle.binary_operators.specs.Integers.{unsigned, signed}
 use Rattle.binary_operators.specs.Types.{canonical, heap_type, ref_type, value_type}
 use Rattle.binary_operators.specs.Unplaced.{nowhere}
+use Rattle.binary_operators.specs.Vectors.{BeginVector}
 use Rattle.binary_operators.specs.declared.types.CanonicalTypes.{CanonicalTypes}
 use Rattle.binary_operators.specs.declared.types.GroupNames.TheVariants.{Indices}
 use Rattle.validate_types.specs.declared.heap.AbstractHeapType.TheVariants.{Func, Extern, Any}
@@ -161,3 +162,9 @@ atomics = (refl, refl, refl, refl)
 vector : operator types (0xfd ∷ 0x0c ∷ replicate 16 0x00) ≡ None
 unfolding operator forms
 vector = refl
+
+-- ---- vector operators
+
+-- the prefix 0xfd alone begins one
+vectors : BeginVector (0xfd ∷ 0x0c ∷ []) × (¬ BeginVector (0xfc ∷ 0x0c ∷ [])) × (¬ BeginVector [])
+vectors = (refl, (λ e. let first : 0xfc ≡ 0xfd = ap (λ bytes. get_or bytes 0 0) e in omega (arith, first)), (λ e. absurd cc))

@@ -4,4 +4,5 @@ pub mod LongNumbers
 pub mod Powers
 pub mod Sequences
 pub mod Shorter
+pub mod Vectors
 pub mod Wherever

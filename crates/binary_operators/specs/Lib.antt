@@ -11,3 +11,4 @@ pub mod Types
 pub mod Unplaced
 pub mod Unread
 pub mod Values
+pub mod Vectors

@@ -2,11 +2,12 @@
 //!
 //! `.ci/generate` writes the arrays from `operators.tsv`.
 
-ghost use Rattle.std.specs.Prelude.{◌≡◌, Some, None, option_map, IfOk, OnErr};
+ghost use Rattle.std.specs.Prelude.{◌≡◌, Some, None, option_map, IfOk, IfErr, OnErr};
 ghost use Rattle.binary_operators.specs.Atomics.{atomic_at, global_accesses, table_accesses, field_accesses};
 ghost use Rattle.binary_operators.specs.Forms.{from};
 ghost use Rattle.binary_operators.specs.Immediates.{ordering};
 ghost use Rattle.binary_operators.specs.Unplaced.{unplaced};
+ghost use Rattle.binary_operators.specs.Vectors.{IsNoVector};
 
 use crate::codes::natural;
 use crate::error::{Fault, ReadError};
@@ -116,6 +117,7 @@ pub(crate) fn field_access(first: u32, code: u32) -> Option<FieldAccess>
 pub(crate) fn read_ordering(reader: &mut BinaryReader<'_>) -> Result<Ordering, ReadError>
     ensures read { IfOk result (λ order. ordering reader.old.left ≡ Some (order, reader.new.left)) }
     ensures refused { OnErr result (ordering reader.old.left ≡ None) }
+    ensures covered { IfErr result IsNoVector }
 {
     let offset = reader.offset();
     match reader.read_u8()? {

@@ -1,9 +1,10 @@
 //! The types of blocks, and the clauses and handlers that go to labels (WebAssembly core specification,
 //! "Binary Format: Instructions", "Control Instructions", and the proposal "Stack Switching").
 
-ghost use Rattle.std.specs.Prelude.{◌≡◌, Some, None, IfOk, OnErr};
+ghost use Rattle.std.specs.Prelude.{◌≡◌, Some, None, IfOk, IfErr, OnErr};
 ghost use Rattle.binary_operators.specs.Immediates.{block_type, catch_clause, catch_behind, handler};
 ghost use Rattle.binary_operators.specs.Immediates.{handler_behind};
+ghost use Rattle.binary_operators.specs.Vectors.{IsNoVector};
 
 use crate::error::{Fault, ReadError};
 use crate::reader::BinaryReader;
@@ -19,6 +20,7 @@ pub fn read_block_type(
     ensures read { IfOk result (λ ty. block_type canonical.entry reader.old.left
         ≡ Some (ty, reader.new.left)) }
     ensures refused { OnErr result (block_type canonical.entry reader.old.left ≡ None) }
+    ensures covered { IfErr result IsNoVector }
 {
     let code = reader.peek()?;
     if code == 0x40 {
@@ -40,6 +42,7 @@ fn read_catch_behind(
     ensures read { IfOk result (λ clause. catch_behind code reader.old.left
         ≡ Some (clause, reader.new.left)) }
     ensures refused { OnErr result (catch_behind code reader.old.left ≡ None) }
+    ensures covered { IfErr result IsNoVector }
 {
     if code > 3 {
         return Err(ReadError::malformed(Fault::InvalidCatch, offset));
@@ -65,6 +68,7 @@ fn read_catch_behind(
 pub(crate) fn read_catch(reader: &mut BinaryReader<'_>) -> Result<Catch, ReadError>
     ensures read { IfOk result (λ clause. catch_clause reader.old.left ≡ Some (clause, reader.new.left)) }
     ensures refused { OnErr result (catch_clause reader.old.left ≡ None) }
+    ensures covered { IfErr result IsNoVector }
 {
     let offset = reader.offset();
     let code = reader.read_u8()?;
@@ -79,6 +83,7 @@ fn read_handler_behind(
 ) -> Result<Handle, ReadError>
     ensures read { IfOk result (λ h. handler_behind code reader.old.left ≡ Some (h, reader.new.left)) }
     ensures refused { OnErr result (handler_behind code reader.old.left ≡ None) }
+    ensures covered { IfErr result IsNoVector }
 {
     if code > 1 {
         return Err(ReadError::malformed(Fault::InvalidHandler, offset));
@@ -96,6 +101,7 @@ fn read_handler_behind(
 pub(crate) fn read_handler(reader: &mut BinaryReader<'_>) -> Result<Handle, ReadError>
     ensures read { IfOk result (λ h. handler reader.old.left ≡ Some (h, reader.new.left)) }
     ensures refused { OnErr result (handler reader.old.left ≡ None) }
+    ensures covered { IfErr result IsNoVector }
 {
     let offset = reader.offset();
     let code = reader.read_u8()?;

@@ -1,8 +1,9 @@
 //! The casts by which an operator branches (WebAssembly core specification, "Binary Format: Instructions",
 //! "Reference Instructions").
 
-ghost use Rattle.std.specs.Prelude.{◌≡◌, Some, None, IfOk, OnErr};
+ghost use Rattle.std.specs.Prelude.{◌≡◌, Some, None, IfOk, IfErr, OnErr};
 ghost use Rattle.binary_operators.specs.Immediates.{cast, cast_behind};
+ghost use Rattle.binary_operators.specs.Vectors.{IsNoVector};
 
 use crate::error::{Fault, ReadError};
 use crate::reader::BinaryReader;
@@ -19,6 +20,7 @@ fn read_cast_behind(
     ensures read { IfOk result (λ c. cast_behind canonical.entry flags reader.old.left
         ≡ Some (c, reader.new.left)) }
     ensures refused { OnErr result (cast_behind canonical.entry flags reader.old.left ≡ None) }
+    ensures covered { IfErr result IsNoVector }
 {
     let relative_depth = reader.read_var_u32()?;
     let from_ref_type = read_reference_to(reader, canonical, flags % 2 == 1, offset)?;
@@ -38,6 +40,7 @@ pub(crate) fn read_cast(
 ) -> Result<BranchCast, ReadError>
     ensures read { IfOk result (λ c. cast canonical.entry reader.old.left ≡ Some (c, reader.new.left)) }
     ensures refused { OnErr result (cast canonical.entry reader.old.left ≡ None) }
+    ensures covered { IfErr result IsNoVector }
 {
     let offset = reader.offset();
     let flags = reader.read_u8()?;

@@ -3,12 +3,13 @@
 //!
 //! `.ci/generate` writes the arms of the tables from `operators.tsv`.
 
-ghost use Rattle.std.specs.Prelude.{◌≡◌, Some, None, option_map, OnOk, OnErr};
+ghost use Rattle.std.specs.Prelude.{◌≡◌, Some, None, option_map, OnOk, IfErr, OnErr};
 ghost use Rattle.binary_operators.specs.Codes.{at, plain_ops, index_ops, two_index_ops, type_ops};
 ghost use Rattle.binary_operators.specs.Codes.{typed_index_ops};
 ghost use Rattle.binary_operators.specs.Codes.{two_type_ops, heap_ops, cast_ops, block_ops, natural};
 ghost use Rattle.binary_operators.specs.Codes.{access_ops};
 ghost use Rattle.binary_operators.specs.Unplaced.{unplaced};
+ghost use Rattle.binary_operators.specs.Vectors.{IsNoVector};
 
 use crate::error::ReadError;
 use validate_types::HeapType;
@@ -25,6 +26,7 @@ use validate_visit::{
 pub(crate) fn plain_op<'l>(code: u32, offset: u64, to: &mut Op<'l>) -> Result<(), ReadError>
     ensures read { OnOk result (at code plain_ops ≡ Some (unplaced to.new)) }
     ensures refused { OnErr result (at code plain_ops ≡ None) }
+    ensures covered { IfErr result IsNoVector }
 {
     match code {
         0x00 => *to = Op::Control(ControlOp::Unreachable),
@@ -108,6 +110,7 @@ pub(crate) fn index_op<'l>(
 ) -> Result<(), ReadError>
     ensures read { OnOk result (option_map (λ make. make index) (at code index_ops) ≡ Some (unplaced to.new)) }
     ensures refused { OnErr result (at code index_ops ≡ None) }
+    ensures covered { IfErr result IsNoVector }
 {
     match code {
         0x07 => *to = Op::Exception(ExceptionOp::Catch(index)),

@@ -1,6 +1,7 @@
 //! Why bytes aren't those of a module, and where.
 
 ghost use Rattle.std.specs.Prelude.{◌≡◌};
+ghost use Rattle.binary_operators.specs.Vectors.{IsNoVector};
 ghost use Rattle.binary_operators.specs.declared.error.Cause.TheVariants.{OutOfMemory};
 
 use std::alloc::{AllocError, AllocFailed};
@@ -170,7 +171,9 @@ pub struct ReadError {
 
 impl ReadError {
     /// Bytes that are no module's.
-    pub fn malformed(fault: Fault, offset: u64) -> ReadError {
+    pub fn malformed(fault: Fault, offset: u64) -> ReadError
+        ensures { IsNoVector result }
+    {
         ReadError {
             cause: Cause::Malformed(fault),
             offset,
@@ -179,12 +182,16 @@ impl ReadError {
 
     /// The refusal of a number that no operator has behind this prefix, or of a byte that is none's where there is no
     /// prefix. The operator would begin at the offset.
-    pub(crate) fn no_operator(prefix: Option<u8>, code: u32, offset: u64) -> ReadError {
+    pub(crate) fn no_operator(prefix: Option<u8>, code: u32, offset: u64) -> ReadError
+        ensures { IsNoVector result }
+    {
         ReadError::malformed(Fault::IllegalOpcode { prefix, code }, offset)
     }
 
     /// The refusal of a whole code that no operator has, its prefix first. The operator would begin at the offset.
-    pub(crate) fn illegal(code: u32, offset: u64) -> ReadError {
+    pub(crate) fn illegal(code: u32, offset: u64) -> ReadError
+        ensures { IsNoVector result }
+    {
         match u8::try_from(code / 0x100) {
             Ok(0) | Err(_) => ReadError::no_operator(None, code, offset),
             Ok(prefix) => ReadError::no_operator(Some(prefix), code % 0x100, offset),

@@ -7,6 +7,7 @@ ghost use Rattle.binary_operators.specs.Immediates.{catch_clause, handler};
 ghost use Rattle.binary_operators.specs.Integers.{unsigned};
 ghost use Rattle.binary_operators.specs.Types.{value_type};
 ghost use Rattle.binary_operators.specs.Values.{list_of};
+ghost use Rattle.binary_operators.specs.Vectors.{IsNoVector};
 ghost use Rattle.binary_operators.specs.declared.error.Cause.TheVariants.{OutOfMemory};
 ghost use Rattle.binary_operators.specs.declared.types.CanonicalTypes.{CanonicalTypes};
 
@@ -52,7 +53,8 @@ pub(crate) trait Item: Copy {
     fn read(reader: &mut BinaryReader<'_>, canonical: CanonicalTypes<'_>) -> Result<Self, ReadError>
         ensures read { IfOk result (λ item. reading canonical.entry reader.old.left
             ≡ Some (item, reader.new.left)) }
-        ensures refused { OnErr result (reading canonical.entry reader.old.left ≡ None) };
+        ensures refused { OnErr result (reading canonical.entry reader.old.left ≡ None) }
+        ensures covered { IfErr result IsNoVector };
 }
 
 impl Item for u32 {
@@ -121,6 +123,7 @@ fn read_item<T: Item>(
         × (items.new.items ≡ items.old.items ++ item ∷ [])) }
     ensures refused { IfErr result (λ e. e.cause ≢ OutOfMemory
         → T.reading canonical.entry reader.old.left ≡ None) }
+    ensures covered { IfErr result IsNoVector }
 {
     let item = T::read(reader, canonical)?;
     push(items, item)
@@ -137,6 +140,7 @@ pub(crate) fn read_list<T: Item>(
         ≡ Some (items.new.items, reader.new.left)) }
     ensures refused { IfErr result (λ e. e.cause ≢ OutOfMemory
         → list_of (T.reading canonical.entry) reader.old.left ≡ None) }
+    ensures covered { IfErr result IsNoVector }
 {
     items.clear();
     let count = reader.read_var_u32()?;

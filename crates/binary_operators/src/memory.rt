@@ -1,7 +1,8 @@
 //! Places in memories (WebAssembly core specification, "Binary Format: Instructions", "Memory Instructions").
 
-ghost use Rattle.std.specs.Prelude.{◌≡◌, Some, None, IfOk, OnErr};
+ghost use Rattle.std.specs.Prelude.{◌≡◌, Some, None, IfOk, IfErr, OnErr};
 ghost use Rattle.binary_operators.specs.Immediates.{memarg, in_memory};
+ghost use Rattle.binary_operators.specs.Vectors.{IsNoVector};
 
 use crate::error::{Fault, ReadError};
 use crate::reader::BinaryReader;
@@ -11,6 +12,7 @@ use validate_visit::{MemArg, MemArgTarget};
 fn read_place(reader: &mut BinaryReader<'_>, align: u8, memory: u32) -> Result<MemArg, ReadError>
     ensures read { IfOk result (λ m. in_memory align memory reader.old.left ≡ Some (m, reader.new.left)) }
     ensures refused { OnErr result (in_memory align memory reader.old.left ≡ None) }
+    ensures covered { IfErr result IsNoVector }
 {
     Ok(MemArg {
         align,
@@ -25,6 +27,7 @@ fn read_place(reader: &mut BinaryReader<'_>, align: u8, memory: u32) -> Result<M
 pub fn read_memarg(reader: &mut BinaryReader<'_>) -> Result<MemArg, ReadError>
     ensures read { IfOk result (λ m. memarg reader.old.left ≡ Some (m, reader.new.left)) }
     ensures refused { OnErr result (memarg reader.old.left ≡ None) }
+    ensures covered { IfErr result IsNoVector }
 {
     let offset = reader.offset();
     let flags = reader.read_var_u32()?;

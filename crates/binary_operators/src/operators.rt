@@ -17,8 +17,9 @@ ghost use Rattle.binary_operators.specs.Instructions.{table_op, field_op, array_
 ghost use Rattle.binary_operators.specs.Instructions.{operator_of, operator};
 ghost use Rattle.binary_operators.specs.Numbers.{numeric_ops, conversion_ops};
 ghost use Rattle.binary_operators.specs.Unplaced.{unplaced};
+ghost use Rattle.binary_operators.specs.Vectors.{BeginVector, IsNoVector};
 ghost use Rattle.validate_visit.specs.declared.op.Op.TheVariants.{Numeric, Convert};
-ghost use Rattle.binary_operators.specs.declared.error.Cause.TheVariants.{OutOfMemory};
+ghost use Rattle.binary_operators.specs.declared.error.Cause.TheVariants.{OutOfMemory, VectorOperator};
 
 use crate::atomics::{atomic_op, field_access, global_access, read_ordering, table_access};
 use crate::blocks::read_block_type;
@@ -56,6 +57,7 @@ struct Code {
 fn put<'l>(op: Option<Op<'l>>, code: u32, offset: u64, to: &mut Op<'l>) -> Result<(), ReadError>
     ensures read { OnOk result (option_map (λ o. unplaced o) op.entry ≡ Some (unplaced to.new)) }
     ensures refused { OnErr result (option_map (λ o. unplaced o) op.entry ≡ None) }
+    ensures covered { IfErr result IsNoVector }
 {
     match op {
         Some(op) => {
@@ -72,6 +74,7 @@ fn numeric<'l>(code: u32, offset: u64, to: &mut Op<'l>) -> Result<(), ReadError>
     ensures read { OnOk result (option_map (λ o. Numeric o) (from 0x45 numeric_ops code)
         ≡ Some (unplaced to.new)) }
     ensures refused { OnErr result (from 0x45 numeric_ops code ≡ None) }
+    ensures covered { IfErr result IsNoVector }
 {
     let Some(op) = numeric_op(code) else {
         return Err(ReadError::illegal(code, offset));
@@ -85,6 +88,7 @@ fn conversion<'l>(code: u32, offset: u64, to: &mut Op<'l>) -> Result<(), ReadErr
     ensures read { OnOk result (option_map (λ o. Convert o) (from 0xa7 conversion_ops code)
         ≡ Some (unplaced to.new)) }
     ensures refused { OnErr result (from 0xa7 conversion_ops code ≡ None) }
+    ensures covered { IfErr result IsNoVector }
 {
     let Some(op) = conversion_op(code) else {
         return Err(ReadError::illegal(code, offset));
@@ -104,6 +108,7 @@ fn read_index<'l>(
 ) -> Result<(), ReadError>
     ensures read { OnOk result (index_op code reader.old.left ≡ Some (unplaced to.new, reader.new.left)) }
     ensures refused { OnErr result (index_op code reader.old.left ≡ None) }
+    ensures covered { IfErr result IsNoVector }
 {
     let index = reader.read_var_u32()?;
     index_op(code, index, offset, to)
@@ -120,6 +125,7 @@ fn read_two_indices<'l>(
     ensures read { OnOk result (two_index_op code reader.old.left
         ≡ Some (unplaced to.new, reader.new.left)) }
     ensures refused { OnErr result (two_index_op code reader.old.left ≡ None) }
+    ensures covered { IfErr result IsNoVector }
 {
     let first = reader.read_var_u32()?;
     let second = reader.read_var_u32()?;
@@ -138,6 +144,7 @@ fn read_type_index<'l>(
     ensures read { OnOk result (type_op code canonical.entry reader.old.left
         ≡ Some (unplaced to.new, reader.new.left)) }
     ensures refused { OnErr result (type_op code canonical.entry reader.old.left ≡ None) }
+    ensures covered { IfErr result IsNoVector }
 {
     let ty = canonical.of(reader.read_var_u32()?);
     put(type_op(code, ty), code, offset, to)
@@ -155,6 +162,7 @@ fn read_typed_index<'l>(
     ensures read { OnOk result (typed_index_op code canonical.entry reader.old.left
         ≡ Some (unplaced to.new, reader.new.left)) }
     ensures refused { OnErr result (typed_index_op code canonical.entry reader.old.left ≡ None) }
+    ensures covered { IfErr result IsNoVector }
 {
     let ty = canonical.of(reader.read_var_u32()?);
     let index = reader.read_var_u32()?;
@@ -173,6 +181,7 @@ fn read_two_types<'l>(
     ensures read { OnOk result (two_type_op code canonical.entry reader.old.left
         ≡ Some (unplaced to.new, reader.new.left)) }
     ensures refused { OnErr result (two_type_op code canonical.entry reader.old.left ≡ None) }
+    ensures covered { IfErr result IsNoVector }
 {
     let first = canonical.of(reader.read_var_u32()?);
     let second = canonical.of(reader.read_var_u32()?);
@@ -191,6 +200,7 @@ fn read_heap<'l>(
     ensures read { OnOk result (heap_op code canonical.entry reader.old.left
         ≡ Some (unplaced to.new, reader.new.left)) }
     ensures refused { OnErr result (heap_op code canonical.entry reader.old.left ≡ None) }
+    ensures covered { IfErr result IsNoVector }
 {
     let ty = read_heap_type(reader, canonical)?;
     put(heap_op(code, ty), code, offset, to)
@@ -208,6 +218,7 @@ fn read_branch_cast<'l>(
     ensures read { OnOk result (cast_op code canonical.entry reader.old.left
         ≡ Some (unplaced to.new, reader.new.left)) }
     ensures refused { OnErr result (cast_op code canonical.entry reader.old.left ≡ None) }
+    ensures covered { IfErr result IsNoVector }
 {
     let cast = read_cast(reader, canonical)?;
     put(cast_op(code, cast), code, offset, to)
@@ -225,6 +236,7 @@ fn read_block<'l>(
     ensures read { OnOk result (block_op code canonical.entry reader.old.left
         ≡ Some (unplaced to.new, reader.new.left)) }
     ensures refused { OnErr result (block_op code canonical.entry reader.old.left ≡ None) }
+    ensures covered { IfErr result IsNoVector }
 {
     let ty = read_block_type(reader, canonical)?;
     put(block_op(code, ty), code, offset, to)
@@ -240,6 +252,7 @@ fn read_access<'l>(
 ) -> Result<(), ReadError>
     ensures read { OnOk result (access_op code reader.old.left ≡ Some (unplaced to.new, reader.new.left)) }
     ensures refused { OnErr result (access_op code reader.old.left ≡ None) }
+    ensures covered { IfErr result IsNoVector }
 {
     let place = read_memarg(reader)?;
     put(access_op(code, place), code, offset, to)
@@ -255,6 +268,7 @@ fn read_atomic<'l>(
 ) -> Result<(), ReadError>
     ensures read { OnOk result (atomic_op code reader.old.left ≡ Some (unplaced to.new, reader.new.left)) }
     ensures refused { OnErr result (atomic_op code reader.old.left ≡ None) }
+    ensures covered { IfErr result IsNoVector }
 {
     let place = read_memarg(reader)?;
     put(
@@ -271,6 +285,7 @@ fn read_atomic<'l>(
 fn read_i32<'l>(reader: &mut BinaryReader<'_>, to: &mut Op<'l>) -> Result<(), ReadError>
     ensures read { OnOk result (constant_i32 reader.old.left ≡ Some (unplaced to.new, reader.new.left)) }
     ensures refused { OnErr result (constant_i32 reader.old.left ≡ None) }
+    ensures covered { IfErr result IsNoVector }
 {
     let value = reader.read_var_i32()?;
     *to = Op::Numeric(NumericOp::I32Const(value));
@@ -282,6 +297,7 @@ fn read_i32<'l>(reader: &mut BinaryReader<'_>, to: &mut Op<'l>) -> Result<(), Re
 fn read_i64<'l>(reader: &mut BinaryReader<'_>, to: &mut Op<'l>) -> Result<(), ReadError>
     ensures read { OnOk result (constant_i64 reader.old.left ≡ Some (unplaced to.new, reader.new.left)) }
     ensures refused { OnErr result (constant_i64 reader.old.left ≡ None) }
+    ensures covered { IfErr result IsNoVector }
 {
     let value = reader.read_var_i64()?;
     *to = Op::Numeric(NumericOp::I64Const(value));
@@ -293,6 +309,7 @@ fn read_i64<'l>(reader: &mut BinaryReader<'_>, to: &mut Op<'l>) -> Result<(), Re
 fn read_f32<'l>(reader: &mut BinaryReader<'_>, to: &mut Op<'l>) -> Result<(), ReadError>
     ensures read { OnOk result (constant_f32 reader.old.left ≡ Some (unplaced to.new, reader.new.left)) }
     ensures refused { OnErr result (constant_f32 reader.old.left ≡ None) }
+    ensures covered { IfErr result IsNoVector }
 {
     let bits = reader.read_f32()?;
     *to = Op::Numeric(NumericOp::F32Const(Ieee32(bits)));
@@ -304,6 +321,7 @@ fn read_f32<'l>(reader: &mut BinaryReader<'_>, to: &mut Op<'l>) -> Result<(), Re
 fn read_f64<'l>(reader: &mut BinaryReader<'_>, to: &mut Op<'l>) -> Result<(), ReadError>
     ensures read { OnOk result (constant_f64 reader.old.left ≡ Some (unplaced to.new, reader.new.left)) }
     ensures refused { OnErr result (constant_f64 reader.old.left ≡ None) }
+    ensures covered { IfErr result IsNoVector }
 {
     let bits = reader.read_f64()?;
     *to = Op::Numeric(NumericOp::F64Const(Ieee64(bits)));
@@ -315,6 +333,7 @@ fn read_f64<'l>(reader: &mut BinaryReader<'_>, to: &mut Op<'l>) -> Result<(), Re
 fn read_fence<'l>(reader: &mut BinaryReader<'_>, to: &mut Op<'l>) -> Result<(), ReadError>
     ensures read { OnOk result (fence_op reader.old.left ≡ Some (unplaced to.new, reader.new.left)) }
     ensures refused { OnErr result (fence_op reader.old.left ≡ None) }
+    ensures covered { IfErr result IsNoVector }
 {
     let ordering = read_ordering(reader)?;
     *to = Op::Atomic(AtomicOp::AtomicFence(ordering));
@@ -331,6 +350,7 @@ fn read_global<'l>(
 ) -> Result<(), ReadError>
     ensures read { OnOk result (global_op code reader.old.left ≡ Some (unplaced to.new, reader.new.left)) }
     ensures refused { OnErr result (global_op code reader.old.left ≡ None) }
+    ensures covered { IfErr result IsNoVector }
 {
     let ordering = read_ordering(reader)?;
     let global_index = reader.read_var_u32()?;
@@ -355,6 +375,7 @@ fn read_table<'l>(
 ) -> Result<(), ReadError>
     ensures read { OnOk result (table_op code reader.old.left ≡ Some (unplaced to.new, reader.new.left)) }
     ensures refused { OnErr result (table_op code reader.old.left ≡ None) }
+    ensures covered { IfErr result IsNoVector }
 {
     let ordering = read_ordering(reader)?;
     let table_index = reader.read_var_u32()?;
@@ -381,6 +402,7 @@ fn read_field<'l>(
     ensures read { OnOk result (field_op code canonical.entry reader.old.left
         ≡ Some (unplaced to.new, reader.new.left)) }
     ensures refused { OnErr result (field_op code canonical.entry reader.old.left ≡ None) }
+    ensures covered { IfErr result IsNoVector }
 {
     let ordering = read_ordering(reader)?;
     let struct_type_index = canonical.of(reader.read_var_u32()?);
@@ -412,6 +434,7 @@ fn read_array<'l>(
     ensures read { OnOk result (array_op code canonical.entry reader.old.left
         ≡ Some (unplaced to.new, reader.new.left)) }
     ensures refused { OnErr result (array_op code canonical.entry reader.old.left ≡ None) }
+    ensures covered { IfErr result IsNoVector }
 {
     let ordering = read_ordering(reader)?;
     let type_index = canonical.of(reader.read_var_u32()?);
@@ -436,6 +459,7 @@ fn read_branch_table<'l>(
 ) -> Result<(), ReadError>
     ensures read { OnOk result (branch_table reader.old.left ≡ Some (unplaced to.new, reader.new.left)) }
     ensures refused { IfErr result (λ e. e.cause ≢ OutOfMemory → branch_table reader.old.left ≡ None) }
+    ensures covered { IfErr result IsNoVector }
 {
     read_list(reader, canonical, labels)?;
     let default = reader.read_var_u32()?;
@@ -469,6 +493,7 @@ fn read_select<'l>(
         ≡ Some (unplaced to.new, reader.new.left)) }
     ensures refused { IfErr result (λ e. e.cause ≢ OutOfMemory
         → select_op canonical.entry reader.old.left ≡ None) }
+    ensures covered { IfErr result IsNoVector }
 {
     read_list(reader, canonical, types)?;
     *to = select(types.as_slice());
@@ -487,6 +512,7 @@ fn read_try_table<'l>(
         ≡ Some (unplaced to.new, reader.new.left)) }
     ensures refused { IfErr result (λ e. e.cause ≢ OutOfMemory
         → try_table_op canonical.entry reader.old.left ≡ None) }
+    ensures covered { IfErr result IsNoVector }
 {
     let ty = read_block_type(reader, canonical)?;
     read_list(reader, canonical, catches)?;
@@ -532,6 +558,7 @@ fn read_resume<'l>(
         ≡ Some (unplaced to.new, reader.new.left)) }
     ensures refused { IfErr result (λ e. e.cause ≢ OutOfMemory
         → resume_op code.number canonical.entry reader.old.left ≡ None) }
+    ensures covered { IfErr result IsNoVector }
 {
     let Code { number, offset, .. } = code;
     let ty = canonical.of(reader.read_var_u32()?);
@@ -551,6 +578,7 @@ fn read_resume_throw<'l>(
         ≡ Some (unplaced to.new, reader.new.left)) }
     ensures refused { IfErr result (λ e. e.cause ≢ OutOfMemory
         → resume_throw_op canonical.entry reader.old.left ≡ None) }
+    ensures covered { IfErr result IsNoVector }
 {
     let cont_type_index = canonical.of(reader.read_var_u32()?);
     let tag_index = reader.read_var_u32()?;
@@ -578,6 +606,7 @@ fn read_by<'l>(
         ≡ Some (unplaced to.new, reader.new.left)) }
     ensures refused { IfErr result (λ e. e.cause ≢ OutOfMemory
         → operator_by code.form code.number canonical.entry reader.old.left ≡ None) }
+    ensures covered { IfErr result IsNoVector }
 {
     let Code {
         form,
@@ -612,8 +641,7 @@ fn read_by<'l>(
         Form::Table => read_table(reader, number, offset, to),
         Form::Field => read_field(reader, canonical, number, offset, to),
         Form::Array => read_array(reader, canonical, number, offset, to),
-        Form::Vector => Err(ReadError::vector_operator(offset)),
-        Form::Illegal | Form::Prefix => Err(ReadError::illegal(number, offset)),
+        Form::Illegal | Form::Prefix | Form::Vector => Err(ReadError::illegal(number, offset)),
     }
 }
 
@@ -631,6 +659,7 @@ fn read_prefixed<'l>(
         ≡ Some (unplaced to.new, reader.new.left)) }
     ensures refused { IfErr result (λ e. e.cause ≢ OutOfMemory
         → prefixed_op prefix canonical.entry reader.old.left ≡ None) }
+    ensures covered { IfErr result IsNoVector }
 {
     let offset = reader.offset().saturating_sub(1);
     let code = reader.read_var_u32()?;
@@ -664,11 +693,13 @@ fn read_rare<'l>(
         ≡ Some (unplaced to.new, reader.new.left)) }
     ensures refused { IfErr result (λ e. e.cause ≢ OutOfMemory
         → operator_of (from 0 forms code) code canonical.now reader.old.left ≡ None) }
+    ensures vector { IfErr result (λ e. e.cause ≡ VectorOperator → code ≡ 0xfd) }
 {
     let offset = reader.offset().saturating_sub(1);
     let number = u32::from(code);
     match form_of(code) {
         Some(Form::Prefix) => read_prefixed(reader, *canonical, lists, code, to),
+        Some(Form::Vector) => Err(ReadError::vector_operator(offset)),
         Some(form) => read_by(
             reader,
             *canonical,
@@ -698,6 +729,7 @@ pub fn read_operator_into<'l>(
         ≡ Some (unplaced to.new, reader.new.left)) }
     ensures refused { IfErr result (λ e. e.cause ≢ OutOfMemory
         → operator canonical.now reader.old.left ≡ None) }
+    ensures vector { IfErr result (λ e. e.cause ≡ VectorOperator → BeginVector reader.old.left) }
 {
     let offset = reader.offset();
     let code = reader.read_u8()?;
@@ -724,6 +756,7 @@ pub fn read_operator<'l>(
         ≡ Some (unplaced op, reader.new.left)) }
     ensures refused { IfErr result (λ e. e.cause ≢ OutOfMemory
         → operator canonical.entry reader.old.left ≡ None) }
+    ensures vector { IfErr result (λ e. e.cause ≡ VectorOperator → BeginVector reader.old.left) }
 {
     let mut op = Op::Numeric(NumericOp::I32Const(0));
     read_operator_into(reader, &canonical, lists, &mut op)?;

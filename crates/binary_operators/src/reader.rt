@@ -1,9 +1,10 @@
 //! Bytes and numbers of a module (WebAssembly core specification, "Binary Format: Values").
 
-ghost use Rattle.std.specs.Prelude.{ℕ, ◌≡◌, ◌≢◌, ◌≤◌, ◌<◌, ◌+◌, ◌^◌, ◌↔◌, List, [], ◌∷◌, ◌++◌, Some, None, ◌-◌, length, take, drop, true, false, IsTrue, IfOk, OnOk, IfSome, OnErr};
+ghost use Rattle.std.specs.Prelude.{ℕ, ◌≡◌, ◌≢◌, ◌≤◌, ◌<◌, ◌+◌, ◌^◌, ◌↔◌, List, [], ◌∷◌, ◌++◌, Some, None, ◌-◌, length, take, drop, true, false, IsTrue, IfOk, OnOk, IfSome, IfErr, OnErr};
 ghost use Rattle.binary_operators.specs.Integers.{unsigned, biased, signed, above};
 ghost use Rattle.binary_operators.specs.Values.{float32, float64};
 ghost use Rattle.binary_operators.specs.Types.{type_number};
+ghost use Rattle.binary_operators.specs.Vectors.{IsNoVector};
 
 use crate::error::{Fault, ReadError};
 use crate::integers::{has_bits, last_biased, raised};
@@ -91,6 +92,7 @@ impl<'a> BinaryReader<'a> {
     pub fn peek(&self) -> Result<u8, ReadError>
         ensures next { IfOk result (λ byte. take 1 self.now.left ≡ byte ∷ []) }
         ensures ended { OnErr result (self.now.left ≡ []) }
+        ensures covered { IfErr result IsNoVector }
     {
         if self.place < self.bytes.len() {
             Ok(self.bytes[self.place])
@@ -130,6 +132,7 @@ impl<'a> BinaryReader<'a> {
         ensures read { IfOk result (λ byte. self.old.left ≡ byte ∷ self.new.left) }
         ensures ended { OnErr result (self.old.left ≡ []) }
         ensures kept { OnErr result (self.new ≡ self.old) }
+        ensures covered { IfErr result IsNoVector }
     {
         let place = self.place;
         if place < self.bytes.len() {
@@ -158,6 +161,7 @@ impl<'a> BinaryReader<'a> {
         ensures there { OnOk result (self.old.left ≢ []) }
         ensures ended { OnErr result (self.old.left ≡ []) }
         ensures kept { OnErr result (self.new ≡ self.old) }
+        ensures covered { IfErr result IsNoVector }
     {
         if self.peek()? != code {
             return Ok(false);
@@ -173,6 +177,7 @@ impl<'a> BinaryReader<'a> {
         ensures there { OnOk result (count ≤ length self.old.left) }
         ensures ended { OnErr result (length self.old.left < count) }
         ensures kept { OnErr result (self.new ≡ self.old) }
+        ensures covered { IfErr result IsNoVector }
     {
         if count > self.bytes_left() {
             return Err(self.ended());
@@ -192,6 +197,7 @@ impl<'a> BinaryReader<'a> {
         ensures there { OnOk result (count ≤ length self.old.left) }
         ensures ended { OnErr result (length self.old.left < count) }
         ensures kept { OnErr result (self.new ≡ self.old) }
+        ensures covered { IfErr result IsNoVector }
     {
         if count > self.bytes_left() {
             return Err(self.ended());
@@ -204,7 +210,9 @@ impl<'a> BinaryReader<'a> {
         })
     }
 
-    fn ended(&self) -> ReadError {
+    fn ended(&self) -> ReadError
+        ensures { IsNoVector result }
+    {
         ReadError::malformed(Fault::UnexpectedEnd, self.offset())
     }
 
@@ -214,6 +222,7 @@ impl<'a> BinaryReader<'a> {
     pub fn read_var_u32(&mut self) -> Result<u32, ReadError>
         ensures read { IfOk result (λ value. unsigned 32 self.old.left ≡ Some (value, self.new.left)) }
         ensures refused { OnErr result (unsigned 32 self.old.left ≡ None) }
+        ensures covered { IfErr result IsNoVector }
     {
         let value = self.read_unsigned(32)?;
         Ok(value as u32)
@@ -223,6 +232,7 @@ impl<'a> BinaryReader<'a> {
     pub fn read_var_u64(&mut self) -> Result<u64, ReadError>
         ensures read { IfOk result (λ value. unsigned 64 self.old.left ≡ Some (value, self.new.left)) }
         ensures refused { OnErr result (unsigned 64 self.old.left ≡ None) }
+        ensures covered { IfErr result IsNoVector }
     {
         self.read_unsigned(64)
     }
@@ -232,6 +242,7 @@ impl<'a> BinaryReader<'a> {
     pub fn read_var_i32(&mut self) -> Result<i32, ReadError>
         ensures read { IfOk result (λ value. signed 32 self.old.left ≡ Some (value, self.new.left)) }
         ensures refused { OnErr result (signed 32 self.old.left ≡ None) }
+        ensures covered { IfErr result IsNoVector }
     {
         let value = self.read_biased(32)?;
         Ok((value as i64 - 0x8000_0000) as i32)
@@ -243,6 +254,7 @@ impl<'a> BinaryReader<'a> {
             ≡ Some (i + 2 ^ 32, self.new.left))) }
         ensures negative { IfOk result (λ index. index ≡ None → type_number self.old.left ≡ None) }
         ensures refused { OnErr result (biased 33 self.old.left ≡ None) }
+        ensures covered { IfErr result IsNoVector }
     {
         let value = self.read_biased(33)?;
         if value >= 0x1_0000_0000 {
@@ -255,6 +267,7 @@ impl<'a> BinaryReader<'a> {
     pub fn read_var_i64(&mut self) -> Result<i64, ReadError>
         ensures read { IfOk result (λ value. signed 64 self.old.left ≡ Some (value, self.new.left)) }
         ensures refused { OnErr result (signed 64 self.old.left ≡ None) }
+        ensures covered { IfErr result IsNoVector }
     {
         let value = self.read_biased(64)?;
         Ok((i128::from(value) - 0x8000_0000_0000_0000) as i64)
@@ -283,6 +296,7 @@ impl<'a> BinaryReader<'a> {
         ensures below { IfOk result (λ value. value < 2 ^ bits) }
         ensures read { IfOk result (λ value. unsigned bits self.old.left ≡ Some (value, self.new.left)) }
         ensures refused { OnErr result (unsigned bits self.old.left ≡ None) }
+        ensures covered { IfErr result IsNoVector }
     {
         let offset = self.offset();
         match self.read_last() {
@@ -300,6 +314,7 @@ impl<'a> BinaryReader<'a> {
         ensures below { IfOk result (λ value. value < 2 ^ bits) }
         ensures read { IfOk result (λ value. unsigned bits self.old.left ≡ Some (value, self.new.left)) }
         ensures refused { OnErr result (unsigned bits self.old.left ≡ None) }
+        ensures covered { IfErr result IsNoVector }
     {
         let long = self.read_long(bits)?;
         let width = bits - long.shift;
@@ -322,6 +337,7 @@ impl<'a> BinaryReader<'a> {
         ensures biased { IfOk result (λ long. biased bits self.old.left
             ≡ above long.shift long.low (biased (bits - long.shift) (long.last ∷ self.new.left))) }
         ensures refused { OnErr result ((unsigned bits self.old.left ≡ None) × (biased bits self.old.left ≡ None)) }
+        ensures covered { IfErr result IsNoVector }
     {
         let mut low = 0;
         let mut shift = 0;
@@ -353,6 +369,7 @@ impl<'a> BinaryReader<'a> {
         ensures below { IfOk result (λ value. value < 2 ^ bits) }
         ensures read { IfOk result (λ value. biased bits self.old.left ≡ Some (value, self.new.left)) }
         ensures refused { OnErr result (biased bits self.old.left ≡ None) }
+        ensures covered { IfErr result IsNoVector }
     {
         let offset = self.offset();
         let Some(byte) = self.read_last() else {
@@ -373,6 +390,7 @@ impl<'a> BinaryReader<'a> {
         ensures below { IfOk result (λ value. value < 2 ^ bits) }
         ensures read { IfOk result (λ value. biased bits self.old.left ≡ Some (value, self.new.left)) }
         ensures refused { OnErr result (biased bits self.old.left ≡ None) }
+        ensures covered { IfErr result IsNoVector }
     {
         let long = self.read_long(bits)?;
         let width = bits - long.shift;
@@ -388,6 +406,7 @@ impl<'a> BinaryReader<'a> {
         ensures read { IfOk result (λ r. unsigned 32 self.old.left ≡ Some (length r.left, r.left ++ self.new.left)) }
         ensures refused { OnErr result ((size : ℕ) (rest : List ℕ) → unsigned 32 self.old.left ≡ Some (size, rest)
             → length rest < size) }
+        ensures covered { IfErr result IsNoVector }
     {
         let size = self.read_var_u32()?;
         self.part(size as usize)
@@ -398,6 +417,7 @@ impl<'a> BinaryReader<'a> {
     pub fn read_f32(&mut self) -> Result<u32, ReadError>
         ensures read { IfOk result (λ bits. float32 self.old.left ≡ Some (bits, self.new.left)) }
         ensures refused { OnErr result (float32 self.old.left ≡ None) }
+        ensures covered { IfErr result IsNoVector }
     {
         match self.read_bytes(4)? {
             [a, b, c, d] => Ok(u32::from_le_bytes([*a, *b, *c, *d])),
@@ -410,6 +430,7 @@ impl<'a> BinaryReader<'a> {
     pub fn read_f64(&mut self) -> Result<u64, ReadError>
         ensures read { IfOk result (λ bits. float64 self.old.left ≡ Some (bits, self.new.left)) }
         ensures refused { OnErr result (float64 self.old.left ≡ None) }
+        ensures covered { IfErr result IsNoVector }
     {
         let low = self.read_f32()?;
         let high = self.read_f32()?;

@@ -2,11 +2,12 @@
 //! Descriptors").
 
 ghost use Rattle.std.specs.Prelude.{◌≡◌, ◌-◌, ◌^◌, length, min, slice_get, unwrap_or, Some, None, IfOk};
-ghost use Rattle.std.specs.Prelude.{OnErr};
+ghost use Rattle.std.specs.Prelude.{IfErr, OnErr};
 ghost use Rattle.binary_operators.specs.declared.types.GroupNames.TheVariants.{Indices};
 ghost use Rattle.validate_types.specs.declared.heap.HeapType.TheVariants.{Concrete};
 ghost use Rattle.binary_operators.specs.Types.{named, type_name, abstract_type, type_number, heap_type};
 ghost use Rattle.binary_operators.specs.Types.{reference_type, ref_type, value_type};
+ghost use Rattle.binary_operators.specs.Vectors.{IsNoVector};
 
 use crate::error::{Fault, ReadError};
 use crate::reader::BinaryReader;
@@ -117,6 +118,7 @@ fn abstract_type(code: u8) -> Option<AbstractHeapType>
 pub fn read_type_number(reader: &mut BinaryReader<'_>) -> Result<u32, ReadError>
     ensures read { IfOk result (λ i. type_number reader.old.left ≡ Some (i, reader.new.left)) }
     ensures refused { OnErr result (type_number reader.old.left ≡ None) }
+    ensures covered { IfErr result IsNoVector }
 {
     let offset = reader.offset();
     match reader.read_var_s33()? {
@@ -135,6 +137,7 @@ pub fn read_heap_type(
     ensures read { IfOk result (λ ty. heap_type canonical.entry reader.old.left
         ≡ Some (ty, reader.new.left)) }
     ensures refused { OnErr result (heap_type canonical.entry reader.old.left ≡ None) }
+    ensures covered { IfErr result IsNoVector }
 {
     let shared = reader.read_if(0x65)?;
     let offset = reader.offset();
@@ -161,6 +164,7 @@ fn read_concrete(
     ensures read { IfOk result (λ ty. named Concrete canonical.entry (type_number reader.old.left)
         ≡ Some (ty, reader.new.left)) }
     ensures refused { OnErr result (named Concrete canonical.entry (type_number reader.old.left) ≡ None) }
+    ensures covered { IfErr result IsNoVector }
 {
     Ok(HeapType::Concrete(canonical.name(read_type_number(reader)?)))
 }
@@ -177,6 +181,7 @@ pub fn read_reference_to(
     ensures read { IfOk result (λ ty. reference_type canonical.entry nullable reader.old.left
         ≡ Some (ty, reader.new.left)) }
     ensures refused { OnErr result (reference_type canonical.entry nullable reader.old.left ≡ None) }
+    ensures covered { IfErr result IsNoVector }
 {
     match RefType::new(nullable, read_heap_type(reader, canonical)?) {
         Some(ty) => Ok(ty),
@@ -193,6 +198,7 @@ pub fn read_ref_type(
 ) -> Result<RefType, ReadError>
     ensures read { IfOk result (λ ty. ref_type canonical.entry reader.old.left ≡ Some (ty, reader.new.left)) }
     ensures refused { OnErr result (ref_type canonical.entry reader.old.left ≡ None) }
+    ensures covered { IfErr result IsNoVector }
 {
     let offset = reader.offset();
     let code = reader.peek()?;
@@ -213,6 +219,7 @@ pub fn read_value_type(
     ensures read { IfOk result (λ ty. value_type canonical.entry reader.old.left
         ≡ Some (ty, reader.new.left)) }
     ensures refused { OnErr result (value_type canonical.entry reader.old.left ≡ None) }
+    ensures covered { IfErr result IsNoVector }
 {
     let code = reader.peek()?;
     if 0x7b <= code && code <= 0x7f {

@@ -1,8 +1,9 @@
 //! The calls of C on a module.
 
 ghost use Rattle.std.specs.Prelude.{◌≡◌, ◌≢◌, ◌⊎◌, ◌≤◌, ◌<◌, ◌-◌, ◌^◌, ◌↔◌, length, min, true, false, None, Some, IsOk, IfOk, IfErr, IfSome};
-ghost use Rattle.module_check.specs.Items.{item_count};
+ghost use Rattle.module_check.specs.Items.{HasUncovered, item_count};
 ghost use Rattle.module_check.specs.Loaded.{IsAcceptedFunction, IsAcceptedModule, IsSafeFunction, IsValid};
+ghost use Rattle.module_check.specs.Loaded.{IsUncoveredFunction};
 ghost use Rattle.module_check.specs.Verdicts.{IsConsistent, Reports, SaysNo, total};
 ghost use Rattle.module_check.specs.declared.verdict.Item.TheVariants.{Function};
 ghost use Rattle.module_check.specs.declared.verdict.Verdict.TheVariants.{Accepted};
@@ -325,6 +326,7 @@ fn check_one(
     ensures consistent { IsConsistent (length text.new) out.new }
     ensures safe { out.new.status ≡ 0 → IsSafeFunction «module».now function }
     ensures refused { SaysNo out.new.status → ¬ IsAcceptedFunction «module».now function }
+    ensures uncovered { out.new.status ≡ 4 → IsUncoveredFunction «module».now function }
     ensures reported { out.new.status ≢ 0 → Reports (Some (Function function)) out.new }
     ensures missing { out.new.status ≡ 5 ↔ HasNoBody (Whole «module».now) function }
     ensures known { out.new.status ≤ 5 }
@@ -352,6 +354,7 @@ fn check_one_held(
     ensures safe { out.new.status ≡ 0 → OnWhole held.now (λ m. IsSafeFunction m function) }
     ensures refused { (out.new.status ≡ 1) ⊎ (out.new.status ≡ 2)
         → OnWhole held.now (λ m. ¬ IsAcceptedFunction m function) }
+    ensures uncovered { out.new.status ≡ 4 → OnWhole held.now (λ m. IsUncoveredFunction m function) }
     ensures reported { out.new.status ≢ 0 → Reports (Some (Function function)) out.new }
     ensures missing { out.new.status ≡ 5 ↔ HasNoBody held.now function }
     ensures known { out.new.status ≤ 5 }
@@ -376,6 +379,7 @@ fn check_one_kept(
     ensures safe { out.new.status ≡ 0 → OnModule (Some kept.now) (λ m. IsSafeFunction m function) }
     ensures refused { (out.new.status ≡ 1) ⊎ (out.new.status ≡ 2)
         → OnModule (Some kept.now) (λ m. ¬ IsAcceptedFunction m function) }
+    ensures uncovered { out.new.status ≡ 4 → OnModule (Some kept.now) (λ m. IsUncoveredFunction m function) }
     ensures reported { out.new.status ≢ 0 → out.new.status ≢ 6 → Reports (Some (Function function)) out.new }
     ensures missing { out.new.status ≡ 5 ↔ OnHeld (Some kept.now) (λ h. HasNoBody h function) }
     ensures none { out.new.status ≡ 6 ↔ HasNoModule (Some kept.now) }
@@ -395,6 +399,7 @@ fn check_all_held(alloc: Global, held: &HeldModule, text: &mut [u8], out: &mut M
     ensures valid { out.new.status ≡ 0 → OnWhole held.now IsValid }
     ensures refused { (out.new.status ≡ 1) ⊎ (out.new.status ≡ 2)
         → OnWhole held.now (λ m. ¬ IsAcceptedModule m) }
+    ensures uncovered { out.new.status ≡ 4 → OnWhole held.now HasUncovered }
     ensures counted { out.new.status ≢ 3 → total out.old ≡ 0 → OfWhole held.now (λ m.
         total out.new ≡ item_count m) }
     ensures missing { out.new.status ≡ 5 ↔ IsDeclared held.now }
@@ -416,6 +421,7 @@ fn check_all_kept(alloc: Global, kept: &Kept, text: &mut [u8], out: &mut ModuleV
     ensures valid { out.new.status ≡ 0 → OnModule (Some kept.now) IsValid }
     ensures refused { (out.new.status ≡ 1) ⊎ (out.new.status ≡ 2)
         → OnModule (Some kept.now) (λ m. ¬ IsAcceptedModule m) }
+    ensures uncovered { out.new.status ≡ 4 → OnModule (Some kept.now) HasUncovered }
     ensures counted { out.new.status ≢ 3 → total out.old ≡ 0 → OfModule (Some kept.now) (λ m.
         total out.new ≡ item_count m) }
     ensures missing { out.new.status ≡ 5 ↔ OnHeld (Some kept.now) IsDeclared }
@@ -495,6 +501,7 @@ pub fn validate_function(
     ensures safe { result ≡ 0 → OnModule handle.old.held (λ m. IsSafeFunction m function) }
     ensures refused { (result ≡ 1) ⊎ (result ≡ 2)
         → OnModule handle.old.held (λ m. ¬ IsAcceptedFunction m function) }
+    ensures uncovered { result ≡ 4 → OnModule handle.old.held (λ m. IsUncoveredFunction m function) }
     ensures reported { result ≢ 0 → result ≢ 6 → Reports (Some (Function function)) out.new }
     ensures missing { result ≡ 5 ↔ OnHeld handle.old.held (λ h. HasNoBody h function) }
     ensures none { result ≡ 6 ↔ HasNoModule handle.old.held }
@@ -512,7 +519,8 @@ pub fn validate_function(
 }
 
 /// Checks each body and each constant expression. Where the status is 0, the module is valid; where it is 1
-/// or 2, one of them isn't accepted. Where it is at most 4, but not 3, each of them is counted.
+/// or 2, one of them isn't accepted; where it is 4, one of them has a vector operator behind accepted ones. Where it is
+/// at most 4, but not 3, each of them is counted.
 pub fn validate_module(
     alloc: Global,
     handle: &mut Handle,
@@ -524,6 +532,7 @@ pub fn validate_module(
     ensures valid { result ≡ 0 → OnModule handle.old.held IsValid }
     ensures refused { (result ≡ 1) ⊎ (result ≡ 2)
         → OnModule handle.old.held (λ m. ¬ IsAcceptedModule m) }
+    ensures uncovered { result ≡ 4 → OnModule handle.old.held HasUncovered }
     ensures counted { result ≢ 3 → OfModule handle.old.held (λ m. total out.new ≡ item_count m) }
     ensures missing { result ≡ 5 ↔ OnHeld handle.old.held IsDeclared }
     ensures none { result ≡ 6 ↔ HasNoModule handle.old.held }

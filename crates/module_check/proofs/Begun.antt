@@ -18,6 +18,7 @@ use Rattle.validate_operators.specs.Begin.{IsBodyStart, IsExpressionStart, Canno
 use Rattle.module_check.specs.Accepted.{IsCode, AreAcceptedOperators, IsAcceptedCode}
 use Rattle.module_check.specs.Begin.{DefinesRead}
 use Rattle.module_check.specs.Safe.{AreSafeOperators, IsSafeCode}
+use Rattle.module_check.specs.Uncovered.{BeginLocals, HasVector, ReachVector}
 use Rattle.validate_visit.specs.declared.body.BodyKind.{BodyKind}
 use Rattle.validate_visit.specs.declared.body.BodyKind.TheVariants.{Function, Expression}
 
@@ -107,6 +108,17 @@ module _ (md : ModuleContext) (features : WasmFeatures) (types : CanonicalTypes)
       (subst (λ k. IsCode types k bytes d.groups (without_offsets s.accepted.ops)) (sym is)
       (record { behind = behind; has_locals = d.are_read; has_operators = s.accepted.are_read }))
 
+  -- a vector operator stands behind the locals and what is accepted
+  pub function_vector : (kind : BodyKind) (index : ℕ) → kind ≡ Function index → IsBodyStart md features kind v → DefinesRead md types bytes behind v u → ReachVector md types may u behind → HasVector md features types kind may bytes
+  function_vector kind index is starts d reached = record {
+    groups = d.groups;
+    behind = behind;
+    are_read = subst (λ k. BeginLocals types k bytes d.groups behind) (sym is) d.are_read;
+    begun = u;
+    has_locals = record { start = v; starts = starts; defines = d.define };
+    reached = reached;
+  }
+
   -- the locals that the bytes begin with, in a body that is accepted
   read_of : (kind : BodyKind) (index : ℕ) → kind ≡ Function index → IsBodyStart md features kind v → (a : IsAcceptedCode md features types kind may bytes) → (rest : List ℕ) × DefinesRead md types bytes rest v a.begun × AreAcceptedOperators md types may a.begun rest
   read_of kind index is starts a =
@@ -137,6 +149,16 @@ module _ (md : ModuleContext) (features : WasmFeatures) (types : CanonicalTypes)
   expression_code kind ty is starts starting s =
       begun md features types may v v bytes bytes kind [] starts refl starting s
       (subst (λ k. IsCode types k bytes [] (without_offsets s.accepted.ops)) (sym is) (refl, s.accepted.are_read))
+
+  pub expression_vector : (kind : BodyKind) (ty : ValType) → kind ≡ Expression ty → IsBodyStart md features kind v → ReachVector md types may v bytes → HasVector md features types kind may bytes
+  expression_vector kind ty is starts reached = record {
+    groups = [];
+    behind = bytes;
+    are_read = subst (λ k. BeginLocals types k bytes [] bytes) (sym is) (refl, refl);
+    begun = v;
+    has_locals = record { start = v; starts = starts; defines = refl };
+    reached = reached;
+  }
 
   pub no_expression : (kind : BodyKind) (ty : ValType) → kind ≡ Expression ty → IsBodyStart md features kind v → ¬ AreAcceptedOperators md types may v bytes → ¬ IsAcceptedCode md features types kind may bytes
   no_expression kind ty is starts none = λ a.

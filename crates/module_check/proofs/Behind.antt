@@ -1,10 +1,11 @@
 -- One more operator of the bytes of a body: before it they are accepted exactly if those behind it are.
-use Rattle.std.proofs.Common.{◌≡◌, ◌≢◌, ◌↔◌, ℕ, Bool, true, false, List, [], ◌∷◌, length, Option, Some, None, IfSome, IsSome, Ok, is_none, ◌||◌, refl, sym, ap, ◌∙◌, subst}
+use Rattle.std.proofs.Common.{◌≡◌, ◌≢◌, ◌↔◌, ℕ, Bool, true, false, List, [], ◌∷◌, length, Option, Some, None, IfSome, IsSome, Result, Ok, Err, IfErr, is_none, ◌||◌, refl, sym, ap, ◌∙◌, subst}
 use Rattle.std.proofs.lemmas.Bool.{and_from, and_parts}
 use Rattle.std.specs.Option.{option_and_then, option_map}
 use Rattle.binary_operators.specs.Expressions.{AreOperators}
 use Rattle.binary_operators.specs.Instructions.{operator as read_as}
 use Rattle.binary_operators.specs.Unplaced.{unplaced}
+use Rattle.binary_operators.specs.Vectors.{BeginVector}
 use Rattle.binary_operators.specs.declared.types.CanonicalTypes.{CanonicalTypes}
 use Rattle.validate_resources.specs.Context.{ModuleContext, IsLawful}
 use Rattle.validate_visit.specs.declared.op.Op.{Op}
@@ -22,7 +23,11 @@ use Rattle.validate_operators.specs.Runs.{without_offsets, IsAcceptedBody}
 use Rattle.validate_operators.proofs.Listed.{visited, visit_valid, visit_kept, no_frames, safe_accepted}
 use Rattle.module_check.specs.Accepted.{AreAcceptedOperators}
 use Rattle.module_check.specs.Constant.{each_may_stand}
+use Rattle.module_check.specs.Refusals.{IsInvalid, IsVector}
+use Rattle.module_check.specs.declared.verdict.CheckError.{CheckError}
+use Rattle.module_check.specs.declared.verdict.CheckError.TheVariants.{Unread, Refused}
 use Rattle.module_check.specs.Safe.{AreSafeOperators}
+use Rattle.module_check.specs.Uncovered.{ReachVector}
 use Rattle.module_check.proofs.Begun.{both_same, some_same, none_or_some}
 use Rattle.module_check.proofs.Unplaced.{same_operator}
 
@@ -80,6 +85,22 @@ module _ (md : ModuleContext) (types : CanonicalTypes) (may : Op → Bool) where
         are_read = (left, read, a.are_read);
         each_stands = and_from (may op) (each_may_stand may a.ops) stands a.each_stands;
         rows_hold = (rows.0, ap (λ o. option_and_then (λ (s : State). state_before cx code s (length code)) o) row ∙ rows.1);
+      }
+
+  vector_in_front : (v w : BodyState) (op : Op) (offset : ℕ) (bytes left : List ℕ) → read_as types bytes ≡ Some (op, left) → may op ≡ true → step_over md op v ≡ Some w.present → IsKept v w → ReachVector md types may w left → ReachVector md types may v bytes
+  vector_in_front v w op offset bytes left read stands row kept a =
+      let cx = body_context md v in
+      let code = operators cx (without_offsets a.ops) in
+      let rows : state_before cx code w.present (length a.ops) ≡ Some a.state = subst (λ (x : BodyState). state_before (body_context md x) (operators (body_context md x) (without_offsets a.ops)) w.present (length a.ops) ≡ Some a.state) kept a.rows_hold in
+      record {
+        ops = (op, offset) ∷ a.ops;
+        behind = a.behind;
+        are_read = (left, read, a.are_read);
+        each_stands = and_from (may op) (each_may_stand may a.ops) stands a.each_stands;
+        state = a.state;
+        rows_hold = ap (λ o. option_and_then (λ (s : State). state_before cx code s (length a.ops)) o) row ∙ rows;
+        is_open = a.is_open;
+        begins = a.begins;
       }
 
   behind_first : (v w : BodyState) (op : Op) (bytes left : List ℕ) → v.present.frames ≢ [] → read_as types bytes ≡ Some (op, left) → step_over md op v ≡ Some w.present → IsKept v w → AreAcceptedOperators md types may v bytes → AreAcceptedOperators md types may w left
@@ -145,6 +166,15 @@ pub some_or_none : {A : Type 0} → (o : Option A) → IsSome o → o ≡ None �
 some_or_none None some none = absurd cc
 some_or_none (Some a) some none = absurd cc
 
+-- what is invalid is no vector operator
+pub no_vector : (e : CheckError) → IsInvalid e → ¬ IsVector e
+no_vector (Unread e) invalid vector = invalid
+no_vector (Refused e) invalid vector = vector
+
+pub no_vector_in : {T : Type 0} → (P : Type 0) → (r : Result T CheckError) → IfErr r IsInvalid → IfErr r (λ e. IsVector e → P)
+no_vector_in P (Ok x) h = h
+no_vector_in P (Err e) h = λ vector. absurd (no_vector e h vector)
+
 pub none_left : (bytes : List ℕ) → length bytes ≡ 0 → bytes ≡ []
 none_left [] h = refl
 none_left (b ∷ bytes) h = absurd cc
@@ -152,9 +182,10 @@ none_left (b ∷ bytes) h = absurd cc
 -- ---- so far
 
 -- the state u is reached by operators that were accepted: from v on these bytes are accepted exactly if those that
--- are left are from u on
+-- are left are from u on, and reach a vector operator if those do
 pub record IsBehind (md : ModuleContext) (types : CanonicalTypes) (may : Op → Bool) (v u : BodyState) (bytes left : List ℕ) : Type 0 where
   pub same : AreAcceptedOperators md types may v bytes ↔ AreAcceptedOperators md types may u left
+  pub vector : ReachVector md types may u left → ReachVector md types may v bytes
   pub valid : IsValidBody md u
   pub kept : IsKept v u
 
@@ -168,7 +199,7 @@ open_at_start s ty is e = let clash : (start ty).frames ≡ [] = sym (ap (λ (x 
 
 pub at_start : (md : ModuleContext) (types : CanonicalTypes) (may : Op → Bool) (v : BodyState) (bytes : List ℕ) → IsStarting md v → IsOpenBehind md types may v v bytes bytes
 at_start md types may v bytes s = record {
-  behind = record { same = ((λ a. a), (λ a. a)); valid = s.is_valid; kept = refl };
+  behind = record { same = ((λ a. a), (λ a. a)); vector = λ a. a; valid = s.is_valid; kept = refl };
   is_open = open_at_start v.present s.block_type s.one_frame;
 }
 
@@ -197,9 +228,23 @@ module _ (md : ModuleContext) (types : CanonicalTypes) (may : Op → Bool) (v : 
           λ a. behind_first md types may u w (unplaced op) left rest b.is_open e row kept (b.behind.same.0 a),
           λ a. b.behind.same.1 (in_front md types may u w (unplaced op) offset left rest e stands row kept a),
         );
+        vector = λ a. b.behind.vector (vector_in_front md types may u w (unplaced op) offset left rest e stands row kept a);
         valid = visit_valid md _ _ u w _ m;
         kept = kept_on v u w b.behind.kept kept;
       }
+
+  -- what is left begins with a vector operator
+  pub at_vector : (u : BodyState) → IsOpenBehind md types may v u bytes left → BeginVector left → ReachVector md types may v bytes
+  at_vector u b begins = b.behind.vector (record {
+    ops = [];
+    behind = left;
+    are_read = refl;
+    each_stands = refl;
+    state = u.present;
+    rows_hold = refl;
+    is_open = b.is_open;
+    begins = begins;
+  })
 
   -- the last was accepted, and nothing is left
   pub whole : (u : BodyState) (n : ℕ) → IsBehind md types may v u bytes left → left ≡ [] → n ≡ frame_count u.present → n ≡ 0 → IsLawful md → AreSafeOperators md types may v bytes

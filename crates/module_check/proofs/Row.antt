@@ -4,8 +4,8 @@ use Rattle.std.proofs.lemmas.Bool.{cases_lt}
 use Rattle.std.proofs.lemmas.Option.{get_or_from_slice_get, slice_get_within}
 use mathlib.Core.Logic.{◌⊎◌, inl, inr}
 use Rattle.binary_modules.specs.declared.initializers.ConstantExpression.{ConstantExpression}
-use Rattle.module_check.specs.Items.{IsRefusedAt, IsSafeAt, AreSafeBelow, expression_count, function_at, item_count}
-use Rattle.module_check.specs.Loaded.{declarations, IsAcceptedExpression, IsAcceptedFunction, IsSafeExpression, IsSafeFunction, IsSafeModule, IsValid}
+use Rattle.module_check.specs.Items.{IsRefusedAt, IsSafeAt, IsUncoveredAt, AreSafeBelow, expression_count, function_at, item_count}
+use Rattle.module_check.specs.Loaded.{declarations, IsAcceptedExpression, IsAcceptedFunction, IsSafeExpression, IsSafeFunction, IsSafeModule, IsUncoveredExpression, IsUncoveredFunction, IsValid}
 use Rattle.module_check.specs.declared.loaded.LoadedModule.{LoadedModule}
 use Rattle.module_check.proofs.Counted.{few_functions}
 
@@ -39,6 +39,19 @@ module _ (m : LoadedModule) where
   body_refused place behind function past is_behind is_index refused = record {
     expression = λ e is. absurd (omega (arith, past, slice_get_within m.expressions.items place e is));
     body = λ _ fits. subst (λ f. ¬ IsAcceptedFunction m f) (is_index (subst (λ n. m.declared.imports.functions + n < 2 ^ 32) (sym is_behind) fits) ∙ ap (λ n. m.declared.imports.functions + n) is_behind) refused;
+  }
+
+  -- and of what isn't covered
+  pub expression_uncovered : (place : ℕ) (e : ConstantExpression) → place < expression_count m → e ≡ get_or m.expressions.items place e → IsUncoveredExpression m e → IsUncoveredAt m place
+  expression_uncovered place e inside is_there uncovered = record {
+    expression = λ f is. subst (IsUncoveredExpression m) (is_there ∙ get_or_from_slice_get m.expressions.items place f e is) uncovered;
+    body = λ past fits. absurd (omega (arith, past, inside));
+  }
+
+  pub body_uncovered : (place behind function : ℕ) → expression_count m ≤ place → behind ≡ place - expression_count m → (m.declared.imports.functions + behind < 2 ^ 32 → function ≡ m.declared.imports.functions + behind) → IsUncoveredFunction m function → IsUncoveredAt m place
+  body_uncovered place behind function past is_behind is_index uncovered = record {
+    expression = λ e is. absurd (omega (arith, past, slice_get_within m.expressions.items place e is));
+    body = λ _ fits. subst (IsUncoveredFunction m) (is_index (subst (λ n. m.declared.imports.functions + n < 2 ^ 32) (sym is_behind) fits) ∙ ap (λ n. m.declared.imports.functions + n) is_behind) uncovered;
   }
 
   -- where all that stands in the row is safe, each function that isn't imported is, and each constant expression

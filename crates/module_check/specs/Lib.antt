@@ -9,4 +9,5 @@ pub mod Refusals
 pub mod Safe
 pub mod Turns
 pub mod Unbodied
+pub mod Uncovered
 pub mod Verdicts

@@ -6,8 +6,9 @@ ghost use Rattle.validate_stacks.specs.State.{IsStarting};
 ghost use Rattle.validate_operators.specs.Begin.{IsBodyStart};
 ghost use Rattle.module_check.specs.Accepted.{IsAcceptedCode};
 ghost use Rattle.module_check.specs.Constant.{may_stand};
-ghost use Rattle.module_check.specs.Refusals.{IsRefusal};
+ghost use Rattle.module_check.specs.Refusals.{IsRefusal, IsVector};
 ghost use Rattle.module_check.specs.Safe.{IsSafeCode};
+ghost use Rattle.module_check.specs.Uncovered.{HasVector};
 ghost use Rattle.module_check.specs.declared.verdict.Verdict.TheVariants.{Accepted, NotCovered, OutOfMemory};
 ghost use Rattle.validate_types.specs.Features.{has, simd};
 ghost use Rattle.validate_types.specs.declared.features.WasmFeatures.{WasmFeatures};
@@ -53,6 +54,10 @@ fn check_body_from<R: WasmModuleResources>(
         → IsBodyStart (R.context context.now.resources.now) features kind (state v.old)
         → ¬ IsAcceptedCode (R.context context.now.resources.now) features context.now.types kind
         (may_stand context.now.constant) reader.old.left) }
+    ensures vector { IfErr result (λ e. IsVector e → (features : WasmFeatures)
+        → IsBodyStart (R.context context.now.resources.now) features kind (state v.old)
+        → HasVector (R.context context.now.resources.now) features context.now.types kind
+        (may_stand context.now.constant) reader.old.left) }
 {
     match kind {
         BodyKind::Function(_) => {
@@ -93,6 +98,9 @@ pub fn check_body<R: WasmModuleResources>(
         → ¬ IsAcceptedCode (R.context context.now.resources.now) context.now.features.now context.now.types
         kind (may_stand context.now.constant) reader.old.left }
     ensures covered { (offset : ℕ) → result ≡ NotCovered offset → has context.now.features.now simd ≡ true }
+    ensures vector { (offset : ℕ) → result ≡ NotCovered offset
+        → HasVector (R.context context.now.resources.now) context.now.features.now context.now.types kind
+        (may_stand context.now.constant) reader.old.left }
 {
     let alloc = buffers.allocator();
     let BodyBuffers {

@@ -5,7 +5,8 @@ ghost use Rattle.binary_operators.specs.Functions.{locals};
 ghost use Rattle.binary_operators.specs.Instructions.{operator};
 ghost use Rattle.binary_operators.specs.Integers.{unsigned};
 ghost use Rattle.binary_operators.specs.Unplaced.{unplaced};
-ghost use Rattle.binary_operators.specs.declared.error.Cause.TheVariants.{OutOfMemory};
+ghost use Rattle.binary_operators.specs.Vectors.{BeginVector};
+ghost use Rattle.binary_operators.specs.declared.error.Cause.TheVariants.{OutOfMemory, VectorOperator};
 ghost use Rattle.module_check.specs.Begin.{DefinesRead};
 ghost use Rattle.validate_operators.specs.Start.{state};
 ghost use Rattle.validate_stacks.specs.State.{IsStarting};
@@ -101,6 +102,7 @@ impl<'m> CodeReader<'m> {
         ensures refused { IfErr result (λ e. e.cause ≢ OutOfMemory
             → operator self.old.types self.old.reader.left ≡ None) }
         ensures types { self.new.types ≡ self.old.types }
+        ensures vector { IfErr result (λ e. e.cause ≡ VectorOperator → BeginVector self.old.reader.left) }
     {
         read_operator(&mut self.reader, self.types, lists)
     }

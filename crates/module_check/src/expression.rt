@@ -8,8 +8,9 @@ ghost use Rattle.validation_rules.specs.Operators.{operator};
 ghost use Rattle.validate_operators.specs.Start.{state, stacks_of};
 ghost use Rattle.module_check.specs.Accepted.{AreAcceptedOperators};
 ghost use Rattle.module_check.specs.Constant.{may_stand};
-ghost use Rattle.module_check.specs.Refusals.{IsRefusal};
+ghost use Rattle.module_check.specs.Refusals.{IsRefusal, IsVector};
 ghost use Rattle.module_check.specs.Safe.{AreSafeOperators};
+ghost use Rattle.module_check.specs.Uncovered.{ReachVector};
 
 use crate::body::BodyContext;
 use crate::constant::{ConstantPlace, check_constant};
@@ -34,6 +35,7 @@ fn check_operator<R: WasmModuleResources>(
     ensures stands { OnOk result (may_stand (Some place.now) op.now ≡ true) }
     ensures refused { IfErr result (λ e. IsRefusal e → (may_stand (Some place.now) op.now ≡ false)
         ⊎ RowFails (step_body (R.context resources.now) (λ cx. operator cx op.now) (state v.old))) }
+    ensures covered { IfErr result (λ e. ¬ IsVector e) }
 {
     check_constant(place, op, offset)?;
     v.check_ref(resources, offset, op)?;
@@ -55,6 +57,8 @@ pub(crate) fn check_constant_operators<R: WasmModuleResources>(
     ensures refused { IfErr result (λ e. IsRefusal e
         → ¬ AreAcceptedOperators (R.context context.now.resources.now) context.now.types
         (may_stand (Some place.entry)) (state v.old) reader.old.left) }
+    ensures vector { IfErr result (λ e. IsVector e → ReachVector (R.context context.now.resources.now)
+        context.now.types (may_stand (Some place.entry)) (state v.old) reader.old.left) }
 {
     for _ in 0..reader.bytes_left() {
         if reader.is_at_end() {

@@ -53,7 +53,9 @@ impl<'a> LoadedModule<'a> {
     ghost use Rattle.module_check.specs.Unbodied.{DeclaresInModule, declared_by, features_of as features_alone};
     ghost use Rattle.module_check.specs.Loaded.{IsAcceptedFunction, IsAcceptedExpression};
     ghost use Rattle.module_check.specs.Loaded.{IsSafeFunction, IsSafeExpression};
+    ghost use Rattle.module_check.specs.Loaded.{IsUncoveredFunction, IsUncoveredExpression};
     ghost use Rattle.module_check.specs.Safe.{IsSafeCode};
+    ghost use Rattle.module_check.specs.Uncovered.{HasVector};
     ghost use Rattle.module_check.specs.declared.verdict.Verdict.TheVariants.{Refused, NotCovered, OutOfMemory};
     ghost use Rattle.module_rules.specs.Features.{operator_features};
     ghost use Rattle.validate_types.specs.Features.{has, simd};
@@ -268,6 +270,10 @@ impl<'a> LoadedModule<'a> {
             (may_stand constant.entry) bytes.now.left }
         ensures covered { (offset : ℕ) → result ≡ NotCovered offset
             → has (operator_features self.now.features) simd ≡ true }
+        ensures vector { (offset : ℕ) → result ≡ NotCovered offset → (types : CanonicalTypes)
+            × AreTypesOf self.now types
+            × HasVector (declared self.now) (operator_features self.now.features) types kind
+            (may_stand constant.entry) bytes.now.left }
     {
         let mut reader = bytes.duplicate();
         let features = self.features.operator_features();
@@ -294,6 +300,7 @@ impl<'a> LoadedModule<'a> {
         ensures refused { result ≢ Accepted → result ≢ OutOfMemory → ¬ IsAcceptedFunction self.now function }
         ensures covered { (offset : ℕ) → result ≡ NotCovered offset
             → has (operator_features (features_of self.now)) simd ≡ true }
+        ensures vector { (offset : ℕ) → result ≡ NotCovered offset → IsUncoveredFunction self.now function }
     {
         let Some(body) = self.body_of(function) else {
             return Verdict::Refused(unknown_function(0));
@@ -321,6 +328,8 @@ impl<'a> LoadedModule<'a> {
             → ¬ IsAcceptedExpression self.now expression.now }
         ensures covered { (offset : ℕ) → result ≡ NotCovered offset
             → has (operator_features (features_of self.now)) simd ≡ true }
+        ensures vector { (offset : ℕ) → result ≡ NotCovered offset
+            → IsUncoveredExpression self.now expression.now }
     {
         let place = expression.place;
         let Some(ty) = expression_type(&self.declared, place) else {

@@ -1,7 +1,7 @@
 //! What the check of a module comes to.
 
-ghost use Rattle.std.specs.Prelude.{◌≡◌, ◌≢◌, ◌⊎◌, ◌<◌, ◌≤◌, ◌+◌, ◌-◌, ◌^◌, length, take};
-ghost use Rattle.module_check.specs.declared.verdict.Verdict.TheVariants.{Accepted, OutOfMemory};
+ghost use Rattle.std.specs.Prelude.{◌≡◌, ◌≢◌, ◌⊎◌, ◌<◌, ◌≤◌, ◌+◌, ◌-◌, ◌^◌, ℕ, length, take};
+ghost use Rattle.module_check.specs.declared.verdict.Verdict.TheVariants.{Accepted, NotCovered, OutOfMemory};
 ghost use Rattle.module_check.specs.Verdicts.{IsConsistent, SaysNo, status_of, item_kind, item_index, Reports, counted_with, total};
 
 use crate::outcome::{Outcome, VALID};
@@ -141,6 +141,8 @@ impl ModuleVerdict {
         ensures known { self.old.status ≤ 4 → self.new.status ≤ 4 }
         ensures counted { self.new.status ≢ 3 → (self.old.status ≢ 3)
             × (total self.old < 2 ^ 64 - 1 → total self.new ≡ total self.old + 1) }
+        ensures not_covered { self.new.status ≡ 4 → (self.old.status ≡ 4)
+            ⊎ ((offset : ℕ) × (verdict.now ≡ NotCovered offset)) }
     {
         self.count(verdict);
         let outcome = Outcome::of(verdict);

@@ -2,6 +2,7 @@
 
 ghost use Rattle.std.specs.Prelude.{◌≡◌, ◌≢◌, ℕ, List, [], true, false, Ok, Some, None, OnOk, IfOk, OnErr, IfErr, IfSome, IsSome};
 ghost use Rattle.binary_operators.specs.Functions.{locals};
+ghost use Rattle.binary_operators.specs.Vectors.{BeginVector, IsNoVector};
 ghost use Rattle.validate_stacks.specs.State.{BodyState, IsStarting};
 ghost use Rattle.validate_stacks.specs.Visits.{step_body, MayVisit, Meets};
 ghost use Rattle.validation_rules.specs.Static.{RowFails};
@@ -10,9 +11,10 @@ ghost use Rattle.validate_operators.specs.Start.{state, stacks_of};
 ghost use Rattle.module_check.specs.Accepted.{AreAcceptedOperators};
 ghost use Rattle.module_check.specs.Begin.{DefinesGroup, DefinesRead};
 ghost use Rattle.module_check.specs.Constant.{may_stand};
-ghost use Rattle.module_check.specs.Refusals.{IsRefusal, IsInvalid};
+ghost use Rattle.module_check.specs.Refusals.{IsRefusal, IsInvalid, IsVector};
 ghost use Rattle.module_check.specs.Safe.{AreSafeOperators};
 ghost use Rattle.module_check.specs.Turns.{IsTurn};
+ghost use Rattle.module_check.specs.Uncovered.{ReachVector};
 
 use crate::body::BodyContext;
 use crate::common::passes_common;
@@ -36,6 +38,7 @@ pub(crate) fn read_group(
     ensures read { IfOk result (λ group. locals canonical.entry reader.old.left
         ≡ Some (group, reader.new.left)) }
     ensures refused { OnErr result (locals canonical.entry reader.old.left ≡ None) }
+    ensures covered { IfErr result IsNoVector }
 {
     let count = reader.read_var_u32()?;
     let ty = read_value_type(reader, canonical)?;
@@ -55,6 +58,7 @@ fn define_group<R: WasmModuleResources>(
         reader.new.left (state v.old) (state v.new)) }
     ensures refused { IfErr result (λ e. IsRefusal e → (rest : List ℕ) → (w : BodyState)
         → ¬ DefinesGroup (R.context resources.now) canonical.entry reader.old.left rest (state v.old) w) }
+    ensures covered { IfErr result (λ e. ¬ IsVector e) }
 {
     let offset = reader.offset();
     let group = read_group(reader, canonical)?;
@@ -76,6 +80,7 @@ pub(crate) fn define_locals<R: WasmModuleResources>(
         reader.new.left (state v.old) (state v.new)) }
     ensures refused { IfErr result (λ e. IsRefusal e → (rest : List ℕ) → (w : BodyState)
         → ¬ DefinesRead (R.context resources.now) canonical.entry reader.old.left rest (state v.old) w) }
+    ensures covered { IfErr result (λ e. ¬ IsVector e) }
 {
     let groups = reader.read_var_u32()?;
     for _ in 0..groups {
@@ -85,7 +90,9 @@ pub(crate) fn define_locals<R: WasmModuleResources>(
 }
 
 /// The refusal of a body whose operators end while a frame is open, at this offset.
-pub(crate) fn unclosed(offset: u64) -> CheckError {
+pub(crate) fn unclosed(offset: u64) -> CheckError
+    ensures { IsInvalid result }
+{
     CheckError::refused(
         "control frames remain at end of function body or expression",
         offset,
@@ -109,6 +116,7 @@ fn is_any_accepted<R: WasmModuleResources>(
     ensures refused { result ≡ false → IfSome refusal.new (λ e. IsRefusal e
         → ¬ AreAcceptedOperators (R.context context.now.resources.now) context.now.types (may_stand None)
         (state v.old) reader.old.left) }
+    ensures vector { result ≡ false → IfSome refusal.new (λ e. IsVector e → BeginVector reader.old.left) }
 {
     let offset = reader.offset();
     if reader.is_at_end() {
@@ -139,6 +147,7 @@ fn is_read_accepted<R: WasmModuleResources>(
     ensures refused { result ≡ false → IfSome refusal.new (λ e. IsRefusal e
         → ¬ AreAcceptedOperators (R.context context.now.resources.now) context.now.types (may_stand None)
         (state v.old) reader.old.left) }
+    ensures vector { result ≡ false → IfSome refusal.new (λ e. IsVector e → BeginVector reader.old.left) }
 {
     passes_told(v, context.resources, reader) || is_any_accepted(v, context, reader, lists, refusal)
 }
@@ -160,6 +169,7 @@ fn is_lent_accepted<R: WasmModuleResources>(
     ensures refused { result ≡ false → IfSome refusal.new (λ e. IsRefusal e
         → ¬ AreAcceptedOperators (R.context context.now.resources.now) context.now.types (may_stand None)
         (state v.old) reader.old.left) }
+    ensures vector { result ≡ false → IfSome refusal.new (λ e. IsVector e → BeginVector reader.old.left) }
 {
     let mut lent = reader.duplicate();
     let is_accepted = is_read_accepted(v, context, &mut lent, lists, refusal);
@@ -183,6 +193,7 @@ fn is_next_accepted<R: WasmModuleResources>(
     ensures refused { result ≡ false → IfSome refusal.new (λ e. IsRefusal e
         → ¬ AreAcceptedOperators (R.context context.now.resources.now) context.now.types (may_stand None)
         (state v.old) reader.old.left) }
+    ensures vector { result ≡ false → IfSome refusal.new (λ e. IsVector e → BeginVector reader.old.left) }
 {
     passes_common(v, context.resources, reader)
         || is_lent_accepted(v, context, reader, lists, refusal)
@@ -201,21 +212,23 @@ fn check_function_operators<R: WasmModuleResources>(
     ensures refused { IfErr result (λ e. IsRefusal e
         → ¬ AreAcceptedOperators (R.context context.now.resources.now) context.now.types (may_stand None)
         (state v.old) code.now.left) }
+    ensures vector { IfErr result (λ e. IsVector e → ReachVector (R.context context.now.resources.now)
+        context.now.types (may_stand None) (state v.old) code.now.left) }
 {
     let mut refusal = None;
     let mut reader = code.duplicate();
     for _ in 0..code.bytes_left() {
         if !is_next_accepted(v, context, &mut reader, lists, &mut refusal) {
-            break;
+            return Err(match refusal {
+                Some(error) => error,
+                None => unclosed(reader.offset()),
+            });
         }
         if v.control_stack_height() == 0 {
             return check_end(reader);
         }
     }
-    Err(match refusal {
-        Some(error) => error,
-        None => unclosed(reader.offset()),
-    })
+    Err(unclosed(reader.offset()))
 }
 
 /// Reads operators up to the end of the bytes, and checks each by the validator of their body, which starts.
@@ -233,6 +246,8 @@ pub(crate) fn check_operators<R: WasmModuleResources>(
     ensures refused { IfErr result (λ e. IsRefusal e
         → ¬ AreAcceptedOperators (R.context context.now.resources.now) context.now.types
         (may_stand context.now.constant) (state v.old) reader.old.left) }
+    ensures vector { IfErr result (λ e. IsVector e → ReachVector (R.context context.now.resources.now)
+        context.now.types (may_stand context.now.constant) (state v.old) reader.old.left) }
 {
     match context.constant {
         None => check_function_operators(v, context, reader, lists),
@@ -255,6 +270,7 @@ fn is_accepted_by_check<R: WasmModuleResources>(
     ensures told { result ≡ false → IsSome refusal.new }
     ensures refused { result ≡ false → IfSome refusal.new (λ e. IsRefusal e
         → RowFails (step_body (R.context resources.now) (λ cx. operator cx op.now) (state v.old))) }
+    ensures covered { result ≡ false → IfSome refusal.new (λ e. ¬ IsVector e) }
 {
     match v.check_slowly(resources, offset, op) {
         Ok(()) => true,
@@ -281,6 +297,7 @@ fn is_accepted<R: WasmModuleResources>(
     ensures told { result ≡ false → IsSome refusal.new }
     ensures refused { result ≡ false → IfSome refusal.new (λ e. IsRefusal e
         → RowFails (step_body (R.context resources.now) (λ cx. operator cx op.now) (state v.old))) }
+    ensures covered { result ≡ false → IfSome refusal.new (λ e. ¬ IsVector e) }
 {
     if v.passes_at_once(resources, op) {
         return true;

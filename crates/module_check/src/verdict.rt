@@ -1,8 +1,8 @@
 //! What the check of a body or a constant expression comes to.
 
 ghost use Rattle.std.specs.Prelude.{◌≡◌, ◌≢◌, ◌↔◌, ℕ, true, false, IsOk, IfErr};
-ghost use Rattle.binary_operators.specs.declared.error.Cause.TheVariants.{OutOfMemory as NoMemory};
-ghost use Rattle.module_check.specs.Refusals.{IsRefusal, IsInvalid};
+ghost use Rattle.binary_operators.specs.declared.error.Cause.TheVariants.{OutOfMemory as NoMemory, VectorOperator};
+ghost use Rattle.module_check.specs.Refusals.{IsRefusal, IsInvalid, IsVector};
 ghost use Rattle.module_check.specs.Verdicts.{kind_of, index_of};
 ghost use Rattle.module_check.specs.declared.verdict.Verdict.TheVariants.{Accepted, Refused, NotCovered, OutOfMemory};
 ghost use Rattle.validate_types.specs.Features.{has, simd};
@@ -142,6 +142,7 @@ impl Verdict {
     pub fn of_check(checked: Result<(), CheckError>) -> Verdict
         ensures accepted { (result ≡ Accepted) ↔ IsOk checked }
         ensures refused { result ≢ Accepted → result ≢ OutOfMemory → IfErr checked IsRefusal }
+        ensures vector { (offset : ℕ) → result ≡ NotCovered offset → IfErr checked IsVector }
     {
         match checked {
             Ok(()) => Verdict::Accepted,
@@ -154,6 +155,7 @@ impl Verdict {
     pub fn of_check_in(alloc: Global, checked: Result<(), CheckError>) -> Verdict
         ensures accepted { (result ≡ Accepted) ↔ IsOk checked }
         ensures refused { result ≢ Accepted → result ≢ OutOfMemory → IfErr checked IsRefusal }
+        ensures vector { (offset : ℕ) → result ≡ NotCovered offset → IfErr checked IsVector }
     {
         match checked {
             Ok(()) => Verdict::Accepted,
@@ -231,6 +233,7 @@ impl Verdict {
     fn of_fault(fault: Fault, refusal: Error) -> Verdict
         ensures not_accepted { result ≢ Accepted }
         ensures memory { result ≢ OutOfMemory }
+        ensures covered { (offset : ℕ) → result ≢ NotCovered offset }
     {
         match fault {
             Fault::TypeIndexTooLarge | Fault::SeveralSupertypes => Verdict::Refused(refusal),
@@ -242,6 +245,7 @@ impl Verdict {
     pub fn of_read_error(error: ReadError) -> Verdict
         ensures not_accepted { result ≢ Accepted }
         ensures memory { result ≢ OutOfMemory → error.cause ≢ NoMemory }
+        ensures vector { (offset : ℕ) → result ≡ NotCovered offset → error.cause ≡ VectorOperator }
     {
         match error.cause {
             Cause::Malformed(fault) => {
@@ -256,6 +260,7 @@ impl Verdict {
     pub fn of_read_error_in(alloc: Global, error: ReadError) -> Verdict
         ensures not_accepted { result ≢ Accepted }
         ensures memory { result ≢ OutOfMemory → error.cause ≢ NoMemory }
+        ensures vector { (offset : ℕ) → result ≡ NotCovered offset → error.cause ≡ VectorOperator }
     {
         match error.cause {
             Cause::Malformed(fault) if fault.has_number() => {

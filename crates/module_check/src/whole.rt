@@ -1,9 +1,9 @@
 //! The check of a module.
 
 ghost use Rattle.std.specs.Prelude.{◌≡◌, ◌≢◌, ◌⊎◌, ◌≤◌, length};
-ghost use Rattle.module_check.specs.Items.{item_count};
+ghost use Rattle.module_check.specs.Items.{HasUncovered, item_count};
 ghost use Rattle.module_check.specs.Loaded.{IsAcceptedFunction, IsAcceptedModule};
-ghost use Rattle.module_check.specs.Loaded.{IsSafeFunction, IsValid};
+ghost use Rattle.module_check.specs.Loaded.{IsSafeFunction, IsUncoveredFunction, IsValid};
 ghost use Rattle.module_check.specs.Verdicts.{IsConsistent, SaysNo, total};
 
 use crate::buffers::BodyBuffers;
@@ -27,6 +27,8 @@ pub fn check_function(
     ensures refused { SaysNo out.new.status → SaysNo out.old.status ⊎ ¬ IsAcceptedFunction module.now function }
     ensures known { out.old.status ≤ 4 → out.new.status ≤ 4 }
     ensures counted { out.new.status ≢ 3 → total out.old ≡ 0 → total out.new ≡ 1 }
+    ensures not_covered { out.new.status ≡ 4 → (out.old.status ≡ 4)
+        ⊎ IsUncoveredFunction module.now function }
 {
     let verdict = module.check_function(function, buffers);
     out.note(&verdict, Some(Item::Function(function)), text);
@@ -38,8 +40,9 @@ pub fn check_function(
 /// were checked as it was read; each body and each constant expression is type safe; the operators of constant
 /// expressions are constant.
 ///
-/// If it is neither 0 nor that of out of memory, it was neither before, or one of them isn't accepted. Unless it is that of
-/// out of memory, each of them is counted.
+/// If it is neither 0 nor that of out of memory, it was neither before, or one of them isn't accepted. If it is that of not
+/// covered, it was before, or one of them has a vector operator behind accepted ones. Unless it is that of out of memory,
+/// each of them is counted.
 pub fn check_module(
     module: &LoadedModule<'_>,
     buffers: &mut BodyBuffers,
@@ -52,6 +55,7 @@ pub fn check_module(
     ensures refused { SaysNo out.new.status → SaysNo out.old.status ⊎ ¬ IsAcceptedModule module.now }
     ensures known { out.old.status ≤ 4 → out.new.status ≤ 4 }
     ensures counted { out.new.status ≢ 3 → total out.old ≡ 0 → total out.new ≡ item_count module.now }
+    ensures not_covered { out.new.status ≡ 4 → (out.old.status ≡ 4) ⊎ HasUncovered module.now }
 {
     for place in 0..item_count(module) {
         let checked = check_item(module, place, buffers);

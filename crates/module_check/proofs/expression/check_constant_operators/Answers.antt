@@ -7,7 +7,7 @@ use Rattle.validate_operators.specs.Start.{state}
 use Rattle.module_check.specs.Constant.{may_stand}
 use Rattle.module_check.specs.Refusals.{IsRefusal}
 use Rattle.module_check.proofs.Begun.{then_ok, then_err}
-use Rattle.module_check.proofs.Behind.{one_more, still_open, whole, not_whole, unread, unclosed, unaccepted, unconstant, none_left}
+use Rattle.module_check.proofs.Behind.{one_more, still_open, whole, not_whole, unread, unclosed, unaccepted, unconstant, at_vector, no_vector, no_vector_in, none_left}
 use Rattle.binary_operators.proofs.Shorter.{operator_shorter}
 use Rattle.module_check.proofs.Unplaced.{same_place}
 use Rattle.module_check.proofs.expression.check_constant_operators.Goals as goal
@@ -92,3 +92,21 @@ loop-preserved g c =
       };
       few = omega (arith, c.loop.invariant.few, operator_shorter c.args.context.now.types c.loop.reader.left c.read_operator_into.new.reader.left _ c.in_ok-read_operator_into.ensures.read);
     }
+
+pub returns-then-control_stack_height-eq0-clause-vector : goal.returns-then-control_stack_height-eq0-clause-vector
+returns-then-control_stack_height-eq0-clause-vector g c = no_vector_in _ c.check_end.result c.check_end.ensures.invalid
+
+pub returns-in_err-read_operator_into-clause-vector : goal.returns-in_err-read_operator_into-clause-vector
+returns-in_err-read_operator_into-clause-vector g c =
+    let p = err_from_is_err_and c.from_residual.result c.from_residual.ensures.1 in
+    rw (p.1, p.2) (λ vector.
+    at_vector (g.R.WasmModuleResources.context c.args.context.now.resources.now) c.args.context.now.types (may_stand (Some c.args.place)) (state c.args.v.now) c.args.reader.now.left c.loop.reader.left (state c.loop.v) c.loop.invariant.so_far
+    (c.in_err-read_operator_into.ensures.vector vector))
+
+pub returns-in_err-check_operator-clause-vector : goal.returns-in_err-check_operator-clause-vector
+returns-in_err-check_operator-clause-vector g c =
+    let p = err_from_is_err_and c.from_residual-in_err-check_operator.result c.from_residual-in_err-check_operator.ensures.1 in
+    rw (p.1, p.2) (λ vector. absurd (c.in_err-check_operator.ensures.covered vector))
+
+pub returns-clause-vector : goal.returns-clause-vector
+returns-clause-vector g c = λ vector. absurd (no_vector c.unclosed.result c.unclosed.ensures vector)

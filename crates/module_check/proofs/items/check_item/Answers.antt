@@ -1,7 +1,7 @@
 -- What stands there is a constant expression, or a body behind them all.
 use Rattle.std.proofs.Common.{◌≤◌, ◌<◌, ◌-◌, ap, get_or, length, subst, ◌∙◌}
 use Rattle.module_check.proofs.Counted.{accepted_body, accepted_there}
-use Rattle.module_check.proofs.Row.{body_refused, body_safe, expression_refused, expression_safe}
+use Rattle.module_check.proofs.Row.{body_refused, body_safe, body_uncovered, expression_refused, expression_safe, expression_uncovered}
 use Rattle.module_check.proofs.items.check_item.Goals as goal
 
 pub returns-in-Some-clause-safe : goal.returns-in-Some-clause-safe
@@ -42,3 +42,16 @@ returns-in-None-clause-unaccepted c within refused memory accepted =
     let place = c.args.place in
     let count = ap length c.expressions-expressions.ensures in
     c.check_function.ensures.refused refused memory (accepted_body c.args.module.now place _ _ (subst (λ n. n ≤ place) count c.in-None.ensures.lookup.3) within (c.saturating_sub.ensures ∙ ap (λ n. place - n) count) c.function_of-function.ensures accepted)
+
+pub returns-in-Some-clause-vector : goal.returns-in-Some-clause-vector
+returns-in-Some-clause-vector c offset vector =
+    let place = c.args.place in
+    let listed = c.expressions-expressions.ensures in
+    let found = c.in-Some.ensures.lookup in
+    expression_uncovered c.args.module.now place c.in-Some.expression.now (subst (λ n. place < n) (ap length listed) found.3.0) (found.1 ∙ ap (λ es. get_or es place c.in-Some.expression.now) listed) (c.check_expression.ensures.vector offset vector)
+
+pub returns-in-None-clause-vector : goal.returns-in-None-clause-vector
+returns-in-None-clause-vector c offset vector =
+    let place = c.args.place in
+    let count = ap length c.expressions-expressions.ensures in
+    body_uncovered c.args.module.now place _ _ (subst (λ n. n ≤ place) count c.in-None.ensures.lookup.3) (c.saturating_sub.ensures ∙ ap (λ n. place - n) count) c.function_of-function.ensures (c.check_function.ensures.vector offset vector)

@@ -1,12 +1,13 @@
 -- A common operator passes, or nothing is changed before any operator is read.
 use Rattle.std.proofs.Common.{None, IfSome, sym, subst}
 use Rattle.binary_operators.specs.Unread.{Unread}
+use Rattle.binary_operators.specs.Vectors.{BeginVector}
 use Rattle.validate_stacks.specs.Attempts.{Stacked}
 use Rattle.validate_stacks.specs.Visits.{MayVisit}
 use Rattle.validate_operators.specs.Start.{state, stacks_of}
 use Rattle.module_check.specs.Accepted.{AreAcceptedOperators}
 use Rattle.module_check.specs.Constant.{may_stand}
-use Rattle.module_check.specs.Refusals.{IsRefusal}
+use Rattle.module_check.specs.Refusals.{IsRefusal, IsVector}
 use Rattle.module_check.specs.Turns.{IsTurn}
 use Rattle.module_check.proofs.Turned.{turn_of, same_of}
 use Rattle.module_check.proofs.operators.is_next_accepted.Goals as goal
@@ -36,3 +37,9 @@ returns-else-passes_common-clause-refused g c = λ is.
     let refusal = c.is_lent_accepted.new.refusal in
     let there = subst (λ (s : Stacked). IfSome refusal (λ e. IsRefusal e → ¬ AreAcceptedOperators md c.args.context.now.types (may_stand None) s.body c.passes_common.new.reader.left)) same.1 (c.is_lent_accepted.ensures.refused is) in
     subst (λ (r : Unread). IfSome refusal (λ e. IsRefusal e → ¬ AreAcceptedOperators md c.args.context.now.types (may_stand None) (state c.args.v.now) r.left)) same.0 there
+
+pub returns-else-passes_common-clause-vector : goal.returns-else-passes_common-clause-vector
+returns-else-passes_common-clause-vector g c = λ is.
+    let md = g.R.WasmModuleResources.context c.args.context.now.resources.now in
+    let same = same_of md c.passes_common.result c.args.reader.now c.passes_common.new.reader (stacks_of c.args.v.now) (stacks_of c.passes_common.new.v) c.passes_common.ensures c.if-passes_common.false in
+    subst (λ (r : Unread). IfSome c.is_lent_accepted.new.refusal (λ e. IsVector e → BeginVector r.left)) same.0 (c.is_lent_accepted.ensures.vector is)

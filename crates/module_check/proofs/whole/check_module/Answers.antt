@@ -18,6 +18,13 @@ loop-place-preserved c = record {
             let within : c.loop-place.place < item_count c.args.module.now = omega (arith, c.loop-place-test.true, c.item_count-place-end.ensures) in
             c.check_item-checked.ensures.unaccepted within this.0 this.1)
       ];
+  not_covered = λ four.
+      elim (c.note.ensures.not_covered four) [
+        | inl before ↦ c.loop-place.invariant.not_covered before
+        | inr this ↦ inr (
+            let within : c.loop-place.place < item_count c.args.module.now = omega (arith, c.loop-place-test.true, c.item_count-place-end.ensures) in
+            (c.loop-place.place, within, c.check_item-checked.ensures.vector this.0 this.1))
+      ];
   counted = λ enough none.
       let noted = c.note.ensures.counted enough in
       let so_far = c.loop-place.invariant.counted noted.0 none in

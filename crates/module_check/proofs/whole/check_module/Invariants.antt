@@ -1,11 +1,11 @@
 use Rattle.std.proofs.Common.{◌≡◌, ◌≢◌, ◌⊎◌, ◌≤◌, length}
-use Rattle.module_check.specs.Items.{AreSafeBelow}
+use Rattle.module_check.specs.Items.{AreSafeBelow, HasUncovered}
 use Rattle.module_check.specs.Loaded.{IsAcceptedModule}
 use Rattle.module_check.specs.Verdicts.{IsConsistent, SaysNo, total}
 use Rattle.module_check.proofs.whole.check_module.Given as goal
 
 -- What is reported so far agrees with the counts, and stands in its room; where all is accepted, the items so far are safe,
--- and where it says no, it did before or the module isn't accepted; the items so far are counted.
+-- and where it says no, it did before or the module isn't accepted; where it says not covered, it did before or something isn't; the items so far are counted.
 abbrev pub invariant-loop-place : goal.invariant-loop-place
 invariant-loop-place l =
     record {
@@ -13,5 +13,6 @@ invariant-loop-place l =
       safe : l.out.status ≡ 0 → AreSafeBelow l.module l.place;
       known : l.fn.out.status ≤ 4 → l.out.status ≤ 4;
       refused : SaysNo l.out.status → SaysNo l.fn.out.status ⊎ ¬ IsAcceptedModule l.module;
+      not_covered : l.out.status ≡ 4 → (l.fn.out.status ≡ 4) ⊎ HasUncovered l.module;
       counted : l.out.status ≢ 3 → total l.fn.out ≡ 0 → total l.out ≡ l.place;
     }

@@ -17,3 +17,8 @@ returns-clause-refused c = λ refused memory types are a.
     let there = rw (c.operator_features-features.ensures, c.duplicate-reader.ensures) at none in
     there (wherever (declared c.args.self.now) (operator_features c.args.self.now.features) c.args.kind (may_stand c.args.constant) c.args.bytes.now.left types c.types-types.result
     (are.canonical ∙ sym c.types-types.ensures.canonical) (are.behind ∙ sym c.types-types.ensures.behind) a)
+
+pub returns-clause-vector : goal.returns-clause-vector
+returns-clause-vector c = λ offset vector.
+    let code = c.check_body.ensures.vector offset vector in
+    (c.types-types.result, c.types-types.ensures, rw (c.operator_features-features.ensures, c.duplicate-reader.ensures) at code)

@@ -26,3 +26,13 @@ returns-clause-refused c = λ refused memory a.
     let same : a.value_type ≡ c.in-Some.ty = some_same a.value_type c.in-Some.ty (sym a.has_place.is_of_type ∙ (sym c.expression_type.ensures ∙ c.in-Some.is)) in
     c.check_bytes.ensures.refused refused memory a.types a.has_place.are_types
     (subst (λ (ty : ValType). IsAcceptedCode (declared m) (operator_features m.features) a.types (Expression ty) (is_constant_in m.features (declarations m) e.place) e.bytes.left) same a.is_accepted)
+
+pub returns-clause-vector : goal.returns-clause-vector
+returns-clause-vector c = λ offset vector.
+    let code = c.check_bytes.ensures.vector offset vector in
+    record {
+      value_type = c.in-Some.ty;
+      types = code.0;
+      has_place = record { is_of_type = sym c.expression_type.ensures ∙ c.in-Some.is; are_types = code.1 };
+      has_vector = code.2;
+    }

@@ -1,23 +1,35 @@
 -- A group more is read.
 use Rattle.std.proofs.Common.{ap, subst, sym, ◌∙◌, ◌≡◌, ◌≢◌, refl, arith, inl, inr, ℕ, zero, suc, Bool, true, false, cond, List, [], ◌∷◌, ◌++◌, length, append_assoc, append-nil, ◌+◌, Some, Option, None, unwrap_or}
-use Rattle.std.specs.Prelude.{Vec}
-use Rattle.std.specs.BTreeMap.{BTreeMap, get, is_at, Updates}
+use Rattle.std.specs.BTreeMap.{get, is_at, Updates}
 use Rattle.std.specs.Map.{lookup}
-use Rattle.std.specs.Ordering.{is_eq}
-use Rattle.std.specs.declared.alloc.Global.{Global}
+use Rattle.std.specs.Ordering.{is_eq, nat_cmp}
+use Rattle.std.specs.declared.cmp.Ordering.{Ordering}
+use Rattle.std.specs.declared.cmp.Ordering.TheVariants.{Less, Equal, Greater}
+use Rattle.std.specs.Cmp.Lexicographic.{lists_ties, pointwise}
+use Rattle.std.specs.Prelude.{slice_get}
 use mathlib.Core.Bool.{true≢false}
-use Rattle.std.specs.Option.{option_and_then}
+use Rattle.std.proofs.lemmas.Bool.{and_parts, and_from}
+use Rattle.std.proofs.lemmas.Bool.Decides.{Decides-eqb}
+use Rattle.std.specs.Option.{option_and_then, option_map}
 use Rattle.std.specs.List.{range_with_len}
 use Rattle.std.proofs.lemmas.List.{flat_map_more}
+use Rattle.std.proofs.lemmas.Map.Lookups.{exact_unsigned}
 use Rattle.binary_operators.specs.Values.{so_many}
 use Rattle.binary_operators.specs.declared.types.CanonicalTypes.{CanonicalTypes}
 use Rattle.binary_operators.specs.declared.types.GroupNames.{GroupNames}
+use Rattle.validate_types.specs.contracts.types.SubTypePartialEq.TheImpl as sub_eq
+use Rattle.validate_types.specs.contracts.types.SubTypeOrd.TheImpl as sub_ord
+use Rattle.validate_types.specs.contracts.types.SubTypeOrd.TheImpl.Laws.{matches_eq-law as sub_ties}
 use Rattle.validate_types.specs.declared.types.SubType.{SubType}
 use Rattle.validate_types.proofs.Equal.{types_exact, types_tied}
 use Rattle.binary_modules.specs.Parts.{marked}
 use Rattle.binary_modules.specs.SubTypes.{sub_type}
 use Rattle.binary_modules.specs.Groups.{Group, HasGroup, IsGroup, AreGroups, StandsFor, types_of, canonical_of, rec_group, group_count}
-use Rattle.binary_modules.specs.Read.{HasTypes, HasStood, IsFound, Knows, rolled_cmp}
+use Rattle.binary_modules.specs.Mixed.{mix_types}
+use Rattle.binary_modules.specs.Read.{HasTypes, IsFound, IsMixed, IsOther, StandsAlone, Knows, rolled_cmp, alone_at}
+use Rattle.binary_modules.specs.contracts.mixed.RolledGroupOrd.TheImpl.Laws.{matches_eq-law as rolled_ties}
+use Rattle.binary_modules.specs.declared.groups.Groups.{Groups}
+use Rattle.binary_modules.specs.declared.mixed.RolledGroup.{RolledGroup}
 
 -- ---- lists
 
@@ -84,7 +96,7 @@ has_group canonical before names bytes b c explicit count read rest same m n h =
 
 -- ---- what equal groups stand for
 
-stands_found : (groups : List Group) (rolled : List SubType) (own : ℕ) (found : Option ℕ) → IsFound groups rolled found → StandsFor groups rolled own (unwrap_or found own)
+pub stands_found : (groups : List Group) (rolled : List SubType) (own : ℕ) (found : Option ℕ) → IsFound groups rolled found → StandsFor groups rolled own (unwrap_or found own)
 stands_found [] rolled own found h = ap (λ o. unwrap_or o own) h
 stands_found (g ∷ groups) rolled own found (inl h) = inl (h.0, ap (λ o. unwrap_or o own) h.1)
 stands_found (g ∷ groups) rolled own found (inr h) = inr (h.0, stands_found groups rolled own found h.1)
@@ -114,87 +126,143 @@ found_last [] rolled g e h = inl (e, refl)
 found_last (x ∷ groups) rolled g e (inl h) = cc
 found_last (x ∷ groups) rolled g e (inr h) = inr (h.0, found_last groups rolled g e h.1)
 
--- ---- the map of what they stand for
+-- ---- the order of groups, rolled up
 
-pub knows_none : (m : BTreeMap (Vec SubType Global) ℕ) → m.entries ≡ [] → Knows m []
-knows_none m e = λ q. ap (lookup (is_at (rolled_cmp q))) e
+-- one that it takes for equal has the same types
+rolled_exact : (a b : RolledGroup) → is_eq (rolled_cmp a b) ≡ true → a.types.items ≡ b.types.items
+rolled_exact a b e =
+    let p = and_parts _ _ (rolled_ties a b ∙ e) in
+    types_exact a.types.items b.types.items (sym (lists_ties (sub_ord.ghosts).cmp sub_ties a.types.items b.types.items) ∙ p.1)
 
--- a group that is new
-module _ (m n : BTreeMap (Vec SubType Global) ℕ) (groups : List Group) (key : Vec SubType Global) (g : Group)
-    (known : Knows m groups) (none : get rolled_cmp m key ≡ None) (updates : Updates rolled_cmp m n key (Some g.first)) (own : g.rolled ≡ key.items) where
-  new_by : (q : Vec SubType Global) (b : Bool) → is_eq (rolled_cmp key q) ≡ b → IsFound (groups ++ g ∷ []) q.items (get rolled_cmp n q)
-  new_by q true p =
-      let P : Option ℕ → Type 0 = λ o. IsFound (groups ++ g ∷ []) q.items o in
-      let Q : List SubType → Type 0 = λ r. IsFound groups r None in
-      let R : Option ℕ → Type 0 = λ o. IsFound groups key.items o in
-      let same : key.items ≡ q.items = types_exact key.items q.items p in
-      let found = found_last groups q.items g (own ∙ same) (subst Q same (subst R none (known key))) in
-      subst P (sym (updates.0 q ∙ ap (λ b. cond b (Some g.first) (get rolled_cmp m q)) p)) found
-  new_by q false p =
-      let P : Option ℕ → Type 0 = λ o. IsFound (groups ++ g ∷ []) q.items o in
-      let other : g.rolled ≢ q.items = λ e. absurd (true≢false (sym (types_tied key.items q.items (sym own ∙ e)) ∙ p)) in
-      subst P (sym (updates.0 q ∙ ap (λ b. cond b (Some g.first) (get rolled_cmp m q)) p)) (found_other groups q.items (get rolled_cmp m q) g other (known q))
+-- and the other way round, where the numbers are mixed from the types
+rolled_tied : (a b : RolledGroup) → IsMixed a → IsMixed b → a.types.items ≡ b.types.items → is_eq (rolled_cmp a b) ≡ true
+rolled_tied a b p q e =
+    let n : a.mixed ≡ b.mixed = p ∙ ap mix_types e ∙ sym q in
+    sym (rolled_ties a b) ∙ and_from _ _ ((Decides-eqb a.mixed b.mixed).1 n) (lists_ties (sub_ord.ghosts).cmp sub_ties a.types.items b.types.items ∙ types_tied a.types.items b.types.items e)
 
-  knows_new : Knows n (groups ++ g ∷ [])
-  knows_new = λ q. new_by q (is_eq (rolled_cmp key q)) refl
+equal_if : (r : Ordering) → is_eq r ≡ true → r ≡ Equal
+equal_if Less e = cc
+equal_if Equal e = refl
+equal_if Greater e = cc
+
+-- `==` of them
+exactly : (a b : List SubType) → pointwise (sub_eq.ghosts).eq a b ≡ true → a ≡ b
+exactly a b e = types_exact a b (sym (lists_ties (sub_ord.ghosts).cmp sub_ties a b) ∙ e)
+
+-- ---- what is kept of groups
+
+pub is_alone : (types rolled one : List SubType) (i : ℕ) (ty : SubType) → slice_get types i ≡ Some ty → one ≡ ty ∷ [] → pointwise (sub_eq.ghosts).eq rolled one ≡ true → alone_at types i ≡ Some rolled
+is_alone types rolled one i ty there of_one e =
+    ap (option_map (λ t. t ∷ [])) there ∙ ap Some (sym of_one ∙ sym (exactly rolled one e))
+
+pub is_not_alone : (types rolled one : List SubType) (i : ℕ) (ty : SubType) → slice_get types i ≡ Some ty → one ≡ ty ∷ [] → pointwise (sub_eq.ghosts).eq rolled one ≡ false → alone_at types i ≢ Some rolled
+is_not_alone types rolled one i ty there of_one e = λ h.
+    let same : Some (ty ∷ []) ≡ Some rolled = sym (ap (option_map (λ t. t ∷ [])) there) ∙ h in
+    let is : rolled ≡ one = sym (ap (λ o. unwrap_or o []) same) ∙ sym of_one in
+    true≢false (sym (lists_ties (sub_ord.ghosts).cmp sub_ties rolled one ∙ types_tied rolled one is) ∙ e)
+
+pub knows_none : (kept : Groups) (types : List SubType) → kept.alone.entries ≡ [] → kept.others.entries ≡ [] → Knows kept types []
+knows_none kept types a o = record {
+  alone = λ number first e. (
+      let both : None ≡ Some first = sym (ap (lookup (is_at (nat_cmp number))) a) ∙ e in cc);
+  others = λ q is other. ap (lookup (is_at (rolled_cmp q))) o;
+}
+
+alone_more : (types more : List SubType) (i : ℕ) (rolled : List SubType) → alone_at types i ≡ Some rolled → alone_at (types ++ more) i ≡ Some rolled
+alone_more [] more i rolled e = cc
+alone_more (x ∷ types) more zero rolled e = e
+alone_more (x ∷ types) more (suc i) rolled e = alone_more types more i rolled e
+
+-- types more change nothing
+pub knows_more : (kept : Groups) (types more : List SubType) (groups : List Group) → Knows kept types groups → Knows kept (types ++ more) groups
+knows_more kept types more groups known = record {
+  alone = λ number first e. (
+      let s = known.alone number first e in (s.0, alone_more types more first s.0 s.1, s.2));
+  others = λ q is other. known.others q is (λ first e there. other first e (alone_more types more first q.types.items there));
+}
+
+-- what is found for a group, by where it is kept
+pub found_alone : (kept : Groups) (types : List SubType) (groups : List Group) (q : RolledGroup) (first : ℕ) → Knows kept types groups → get nat_cmp kept.alone q.mixed ≡ Some first → alone_at types first ≡ Some q.types.items → IsFound groups q.types.items (Some first)
+found_alone kept types groups q first known e there =
+    let P : List SubType → Type 0 = λ r. IsFound groups r (Some first) in
+    let s = known.alone q.mixed first e in
+    let same : Some s.0 ≡ Some q.types.items = sym s.1 ∙ there in
+    subst P (ap (λ o. unwrap_or o []) same) s.2
 
 -- a group that is equal to an earlier one
-module _ (m : BTreeMap (Vec SubType Global) ℕ) (groups : List Group) (key : Vec SubType Global) (first : ℕ) (g : Group)
-    (known : Knows m groups) (some : get rolled_cmp m key ≡ Some first) (own : g.rolled ≡ key.items) where
-  again_by : (q : Vec SubType Global) (o : Option ℕ) → get rolled_cmp m q ≡ o → IsFound (groups ++ g ∷ []) q.items o
-  again_by q (Some n) p =
-      let P : Option ℕ → Type 0 = λ o. IsFound groups q.items o in
-      found_before groups q.items n g (subst P p (known q))
-  again_by q None p =
-      let P : Option ℕ → Type 0 = λ o. IsFound groups q.items o in
-      let R : Option ℕ → Type 0 = λ o. IsFound groups key.items o in
-      let Q : List SubType → Type 0 = λ r. IsFound groups r (Some first) in
-      let other : g.rolled ≢ q.items = λ e. (
-      let both : None ≡ Some first = found_once groups q.items None (Some first) (subst P p (known q)) (subst Q (sym own ∙ e) (subst R some (known key))) in cc) in
-      found_other groups q.items None g other (subst P p (known q))
+module _ (kept : Groups) (types : List SubType) (groups : List Group) (g : Group) (n : ℕ)
+    (known : Knows kept types groups) (there : IsFound groups g.rolled (Some n)) where
+  again_by : (rolled : List SubType) (o : Option ℕ) → IsFound groups rolled o → IsFound (groups ++ g ∷ []) rolled o
+  again_by rolled (Some m) h = found_before groups rolled m g h
+  again_by rolled None h =
+      let Q : List SubType → Type 0 = λ r. IsFound groups r (Some n) in
+      let other : g.rolled ≢ rolled = λ e. (
+      let both : None ≡ Some n = found_once groups rolled None (Some n) h (subst Q e there) in cc) in
+      found_other groups rolled None g other h
 
-  knows_again : Knows m (groups ++ g ∷ [])
-  knows_again = λ q. again_by q (get rolled_cmp m q) refl
+  pub knows_again : Knows kept types (groups ++ g ∷ [])
+  knows_again = record {
+    alone = λ number first e. (
+        let s = known.alone number first e in (s.0, s.1, found_before groups s.0 first g s.2));
+    others = λ q is other. again_by q.types.items (get rolled_cmp kept.others q) (known.others q is other);
+  }
 
--- the value at the key of a group that is equal to an earlier one is written again
-module _ (m n : BTreeMap (Vec SubType Global) ℕ) (groups : List Group) (key : Vec SubType Global) (first : ℕ)
-    (known : Knows m groups) (some : get rolled_cmp m key ≡ Some first) (updates : Updates rolled_cmp m n key (Some first)) where
-  kept_by : (q : Vec SubType Global) (b : Bool) → is_eq (rolled_cmp key q) ≡ b → IsFound groups q.items (get rolled_cmp n q)
-  kept_by q true p =
-      let P : Option ℕ → Type 0 = λ o. IsFound groups q.items o in
-      let Q : List SubType → Type 0 = λ r. IsFound groups r (Some first) in
-      let R : Option ℕ → Type 0 = λ o. IsFound groups key.items o in
-      let there = subst Q (types_exact key.items q.items p) (subst R some (known key)) in
-      subst P (sym (updates.0 q ∙ ap (λ b. cond b (Some first) (get rolled_cmp m q)) p)) there
-  kept_by q false p =
-      let P : Option ℕ → Type 0 = λ o. IsFound groups q.items o in
-      subst P (sym (updates.0 q ∙ ap (λ b. cond b (Some first) (get rolled_cmp m q)) p)) (known q)
+-- a group that is new, kept with its types
+module _ (kept after : Groups) (types : List SubType) (groups : List Group) (key : RolledGroup) (g : Group)
+    (mixed : IsMixed key) (known : Knows kept types groups) (none : IsFound groups key.types.items None) (own : g.rolled ≡ key.types.items)
+    (same : after.alone ≡ kept.alone) (updates : Updates rolled_cmp kept.others after.others key (Some g.first)) where
+  other_by : (q : RolledGroup) (is : IsMixed q) (h : IsFound groups q.types.items (get rolled_cmp kept.others q)) (b : Bool) → is_eq (rolled_cmp key q) ≡ b → IsFound (groups ++ g ∷ []) q.types.items (get rolled_cmp after.others q)
+  other_by q is h true p =
+      let P : Option ℕ → Type 0 = λ o. IsFound (groups ++ g ∷ []) q.types.items o in
+      let Q : List SubType → Type 0 = λ r. IsFound groups r None in
+      let equal : key.types.items ≡ q.types.items = rolled_exact key q p in
+      let found = found_last groups q.types.items g (own ∙ equal) (subst Q equal none) in
+      subst P (sym (updates.0 q ∙ ap (λ b. cond b (Some g.first) (get rolled_cmp kept.others q)) p)) found
+  other_by q is h false p =
+      let P : Option ℕ → Type 0 = λ o. IsFound (groups ++ g ∷ []) q.types.items o in
+      let unlike : g.rolled ≢ q.types.items = λ e. absurd (true≢false (sym (rolled_tied key q mixed is (sym own ∙ e)) ∙ p)) in
+      subst P (sym (updates.0 q ∙ ap (λ b. cond b (Some g.first) (get rolled_cmp kept.others q)) p)) (found_other groups q.types.items (get rolled_cmp kept.others q) g unlike h)
 
-  knows_kept : Knows n groups
-  knows_kept = λ q. kept_by q (is_eq (rolled_cmp key q)) refl
+  pub knows_other : Knows after types (groups ++ g ∷ [])
+  knows_other = record {
+    alone = λ number first e. (
+        let s = known.alone number first (ap (λ m. get nat_cmp m number) (sym same) ∙ e) in (s.0, s.1, found_before groups s.0 first g s.2));
+    others = λ q is other. other_by q is (known.others q is (λ first e. other first (ap (λ m. get nat_cmp m q.mixed) same ∙ e))) (is_eq (rolled_cmp key q)) refl;
+  }
 
-  still : get rolled_cmp n key ≡ Some first
-  still = updates.0 key ∙ ap (λ b. cond b (Some first) (get rolled_cmp m key)) (types_tied key.items key.items refl)
+-- a group that is new, kept as one type alone
+module _ (kept after : Groups) (types : List SubType) (groups : List Group) (key : RolledGroup) (g : Group)
+    (mixed : IsMixed key) (known : Knows kept types groups) (none : IsFound groups key.types.items None) (own : g.rolled ≡ key.types.items)
+    (same : after.others ≡ kept.others) (free : get nat_cmp kept.alone key.mixed ≡ None) (there : alone_at types g.first ≡ Some key.types.items)
+    (updates : Updates nat_cmp kept.alone after.alone key.mixed (Some g.first)) where
+  alone_by : (number first : ℕ) (b : Bool) → is_eq (nat_cmp key.mixed number) ≡ b → get nat_cmp after.alone number ≡ Some first → StandsAlone types (groups ++ g ∷ []) first
+  alone_by number first true p e =
+      let P : ℕ → Type 0 = λ f. StandsAlone types (groups ++ g ∷ []) f in
+      let is : Some g.first ≡ Some first = sym (updates.0 number ∙ ap (λ b. cond b (Some g.first) (get nat_cmp kept.alone number)) p) ∙ e in
+      subst P (ap (λ o. unwrap_or o 0) is) (key.types.items, there, found_last groups key.types.items g own none)
+  alone_by number first false p e =
+      let s = known.alone number first (sym (updates.0 number ∙ ap (λ b. cond b (Some g.first) (get nat_cmp kept.alone number)) p) ∙ e) in
+      (s.0, s.1, found_before groups s.0 first g s.2)
 
--- a group more, whose key has this value now: that which it had, or its own
-knows_behind : (m n : BTreeMap (Vec SubType Global) ℕ) (groups : List Group) (key : Vec SubType Global) (own first : ℕ) (g : Group) (o : Option ℕ) → get rolled_cmp m key ≡ o → first ≡ unwrap_or o own → Updates rolled_cmp m n key (Some first) → Knows m groups → g.rolled ≡ key.items → g.first ≡ first → Knows n (groups ++ g ∷ [])
-knows_behind m n groups key own first g None is same updates known rolled is_first =
-    let Q : ℕ → Type 0 = λ x. Updates rolled_cmp m n key (Some x) in
-    knows_new m n groups key g known is (subst Q (sym is_first) updates) rolled
-knows_behind m n groups key own first g (Some old) is same updates known rolled is_first =
-    let some : get rolled_cmp m key ≡ Some first = is ∙ ap Some (sym same) in
-    knows_again n groups key first g (knows_kept m n groups key first known some updates) (still m n groups key first known some updates) rolled
+  still_by : (number first : ℕ) (b : Bool) → is_eq (nat_cmp key.mixed number) ≡ b → get nat_cmp kept.alone number ≡ Some first → get nat_cmp after.alone number ≡ Some first
+  still_by number first true p e =
+      let is : key.mixed ≡ number = exact_unsigned key.mixed number (equal_if (nat_cmp key.mixed number) p) in
+      let both : None ≡ Some first = sym free ∙ ap (λ n. get nat_cmp kept.alone n) is ∙ e in cc
+  still_by number first false p e = updates.0 number ∙ ap (λ b. cond b (Some g.first) (get nat_cmp kept.alone number)) p ∙ e
 
--- where the first value at the key of a group stays, that is what the group stands for
-pub stood : (m n : BTreeMap (Vec SubType Global) ℕ) (groups : List Group) (key : Vec SubType Global) (own first : ℕ) → first ≡ unwrap_or (get rolled_cmp m key) own → Updates rolled_cmp m n key (Some first) → Knows m groups → HasStood groups n key.items own first
-stood m n groups key own first value updates known = by (get rolled_cmp m key) refl
-  where
-    by : (o : Option ℕ) → get rolled_cmp m key ≡ o → HasStood groups n key.items own first
-    by o is =
-        let same : first ≡ unwrap_or o own = value ∙ ap (λ x. unwrap_or x own) is in
-        let P : Option ℕ → Type 0 = λ x. IsFound groups key.items x in
-        let Q : ℕ → Type 0 = λ x. StandsFor groups key.items own x in
-        record {
-          stands = subst Q (sym same) (stands_found groups key.items own o (subst P is (known key)));
-          knows = λ g rolled is_first. knows_behind m n groups key own first g o is same updates known rolled is_first;
-        }
+  rest_by : (q : RolledGroup) (is : IsMixed q) (other : IsOther after types q) (b : Bool) → is_eq (rolled_cmp key q) ≡ b → IsFound (groups ++ g ∷ []) q.types.items (get rolled_cmp after.others q)
+  rest_by q is other true p =
+      let equal : key.types.items ≡ q.types.items = rolled_exact key q p in
+      let number : q.mixed ≡ key.mixed = is ∙ ap mix_types (sym equal) ∙ sym mixed in
+      absurd (other g.first (ap (λ n. get nat_cmp after.alone n) number ∙ updates.1) (there ∙ ap Some equal))
+  rest_by q is other false p =
+      let P : Option ℕ → Type 0 = λ o. IsFound (groups ++ g ∷ []) q.types.items o in
+      let unlike : g.rolled ≢ q.types.items = λ e. absurd (true≢false (sym (rolled_tied key q mixed is (sym own ∙ e)) ∙ p)) in
+      let before : IsOther kept types q = λ first e. other first (still_by q.mixed first (is_eq (nat_cmp key.mixed q.mixed)) refl e) in
+      subst P (sym (ap (λ m. get rolled_cmp m q) same)) (found_other groups q.types.items (get rolled_cmp kept.others q) g unlike (known.others q is before))
+
+  pub knows_alone : Knows after types (groups ++ g ∷ [])
+  knows_alone = record {
+    alone = λ number first e. alone_by number first (is_eq (nat_cmp key.mixed number)) refl e;
+    others = λ q is other. rest_by q is other (is_eq (rolled_cmp key q)) refl;
+  }

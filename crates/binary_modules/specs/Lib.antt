@@ -5,6 +5,7 @@ pub mod Initializers
 pub mod Items
 pub mod Kept
 pub mod Limits
+pub mod Mixed
 pub mod Modules
 pub mod OwnRead
 pub mod Parts

@@ -1,18 +1,21 @@
 -- What the reader of recursion groups keeps (the crate's own).
-use Rattle.std.specs.Prelude.{◌≡◌, ◌≢◌, ◌⊎◌, ℕ, List, [], ◌∷◌, ◌++◌, map, Option, Some, None, Vec}
-use Rattle.std.specs.BTreeMap.{BTreeMap, get}
-use Rattle.std.specs.Cmp.Lexicographic.{slice_cmp}
-use Rattle.std.specs.declared.alloc.Global.{Global}
+use Rattle.std.specs.Prelude.{◌≡◌, ◌≢◌, ◌⊎◌, ℕ, List, [], ◌∷◌, ◌++◌, map, Option, Some, None, slice_get}
+use Rattle.std.specs.BTreeMap.{get}
+use Rattle.std.specs.Option.{option_map}
+use Rattle.std.specs.Ordering.{nat_cmp}
 use Rattle.std.specs.declared.cmp.Ordering.{Ordering}
 use Rattle.binary_operators.specs.Values.{so_many}
 use Rattle.binary_operators.specs.declared.types.CanonicalTypes.{CanonicalTypes}
 use Rattle.binary_operators.specs.declared.types.GroupNames.{GroupNames}
-use Rattle.validate_types.specs.contracts.types.SubTypeOrd.TheImpl as sub_type_ord
 use Rattle.validate_types.specs.declared.types.SubType.{SubType}
 use Rattle.binary_modules.specs.SubTypes.{sub_type}
-use Rattle.binary_modules.specs.Groups.{Group, StandsFor, types_of, canonical_of, shape, written_shape}
+use Rattle.binary_modules.specs.Groups.{Group, types_of, canonical_of, shape, written_shape}
 use Rattle.binary_modules.specs.Groups.{IsGroup}
+use Rattle.binary_modules.specs.Mixed.{mix_types}
+use Rattle.binary_modules.specs.contracts.mixed.RolledGroupOrd.TheImpl as rolled_ord
+use Rattle.binary_modules.specs.declared.groups.Groups.{Groups}
 use Rattle.binary_modules.specs.declared.groups.TypeSection.{TypeSection}
+use Rattle.binary_modules.specs.declared.mixed.RolledGroup.{RolledGroup}
 
 -- The bytes begin with so many types of a group. These stand for those before it, and its own are named so.
 pub record HasTypes
@@ -24,8 +27,12 @@ pub record HasTypes
   pub are_read : so_many (sub_type types) count bytes ≡ Some (read, rest)
 
 -- the order of groups, rolled up
-abbrev pub rolled_cmp : Vec SubType Global → Vec SubType Global → Ordering
-rolled_cmp a b = slice_cmp (sub_type_ord.ghosts).cmp a.items b.items
+abbrev pub rolled_cmp : RolledGroup → RolledGroup → Ordering
+rolled_cmp = (rolled_ord.ghosts).cmp
+
+-- its number is the one that is mixed from its types
+abbrev pub IsMixed : RolledGroup → Type 0
+IsMixed rolled = rolled.mixed ≡ mix_types rolled.types.items
 
 -- what the first of these groups that is equal to one, rolled up, stands for, if one is
 abbrev pub IsFound : List Group → List SubType → Option ℕ → Type 0
@@ -33,30 +40,44 @@ IsFound [] rolled found = found ≡ None
 IsFound (g ∷ groups) rolled found =
     ((g.rolled ≡ rolled) × (found ≡ Some g.first)) ⊎ ((g.rolled ≢ rolled) × IsFound groups rolled found)
 
--- the map has what these groups stand for
-abbrev pub Knows : BTreeMap (Vec SubType Global) ℕ → List Group → Type 0
-Knows firsts groups = (rolled : Vec SubType Global) → IsFound groups rolled.items (get rolled_cmp firsts rolled)
+-- the type at the index, as a group of one type
+abbrev pub alone_at : List SubType → ℕ → Option (List SubType)
+alone_at types index = option_map (λ ty. ty ∷ []) (slice_get types index)
 
--- The index stands for that of the first type of a group, rolled up, behind these, and the map has what the group
--- stands for.
-pub record HasStood
-    (before : List Group) (firsts : BTreeMap (Vec SubType Global) ℕ) (rolled : List SubType) (own first : ℕ)
-    : Type 0 where
-  pub stands : StandsFor before rolled own first
-  pub knows : (g : Group) → g.rolled ≡ rolled → g.first ≡ first → Knows firsts (before ++ g ∷ [])
+-- the type at the index is a group alone, which is rolled up as it is declared and stands for itself
+abbrev pub StandsAlone : List SubType → List Group → ℕ → Type 0
+StandsAlone types groups first =
+    (rolled : List SubType) × (alone_at types first ≡ Some rolled) × IsFound groups rolled (Some first)
 
--- these are the types of these groups, and the map has what they stand for
+-- the group is none of the types that are kept as groups alone
+abbrev pub IsOther : Groups → List SubType → RolledGroup → Type 0
+IsOther kept types rolled =
+    (first : ℕ) → get nat_cmp kept.alone rolled.mixed ≡ Some first
+    → alone_at types first ≢ Some rolled.types.items
+
+-- what is kept says what these groups stand for, where these are the types of the module
+pub record Knows (kept : Groups) (types : List SubType) (groups : List Group) : Type 0 where
+  pub alone : (number first : ℕ) → get nat_cmp kept.alone number ≡ Some first → StandsAlone types groups first
+  pub others : (rolled : RolledGroup) → IsMixed rolled → IsOther kept types rolled
+      → IsFound groups rolled.types.items (get rolled_cmp kept.others rolled)
+
+-- a group more is kept, for which this was found, and for whose first type this index stands
+abbrev pub KeepsAs : Groups → Groups → List SubType → RolledGroup → Option ℕ → ℕ → Type 0
+KeepsAs kept after types rolled found first =
+    IsMixed rolled → (groups : List Group) → Knows kept types groups → IsFound groups rolled.types.items found
+    → (g : Group) → g.rolled ≡ rolled.types.items → g.first ≡ first → Knows after types (groups ++ g ∷ [])
+
+-- these are the types of these groups, and what is kept says what they stand for
 pub record HasRead
-    (section : TypeSection) (firsts : BTreeMap (Vec SubType Global) ℕ) (groups : List Group) : Type 0 where
+    (section : TypeSection) (kept : Groups) (groups : List Group) : Type 0 where
   pub types : section.types.items ≡ types_of groups
   pub canonical : section.canonical.items ≡ canonical_of groups
   pub written : map written_shape section.groups.items ≡ map shape groups
-  pub known : Knows firsts groups
+  pub known : Knows kept section.types.items groups
 
 -- a group more was read: the bytes began with it, and these are behind it
 pub record HasReadGroup
-    (before : List Group) (bytes rest : List ℕ) (section : TypeSection)
-    (firsts : BTreeMap (Vec SubType Global) ℕ) : Type 0 where
+    (before : List Group) (bytes rest : List ℕ) (section : TypeSection) (kept : Groups) : Type 0 where
   pub group : Group
   pub is_group : IsGroup before bytes group rest
-  pub has_read : HasRead section firsts (before ++ group ∷ [])
+  pub has_read : HasRead section kept (before ++ group ∷ [])

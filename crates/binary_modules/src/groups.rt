@@ -4,46 +4,127 @@
 //! here, that of the first of them: whatever names a type is read through a list that says which stands for
 //! it. Each group is read twice: first rolled up, to be compared, and then as it is declared.
 
-ghost use Rattle.std.specs.Prelude.{◌≡◌, List, [], ◌++◌, Some, IfOk, OnOk};
+ghost use Rattle.std.specs.Prelude.{◌≡◌, ◌≢◌, true, false, List, [], ◌++◌, Some, None, IfOk, IfSome, OnOk, unwrap_or};
+ghost use Rattle.std.specs.BTreeMap.{get};
 ghost use Rattle.std.specs.List.{range_with_len};
+ghost use Rattle.std.specs.Ordering.{nat_cmp};
 ghost use Rattle.binary_operators.specs.declared.types.GroupNames.TheVariants.{Places, Indices};
 ghost use Rattle.validate_types.specs.declared.types.SubType.{SubType};
 ghost use Rattle.binary_modules.specs.Groups.{Group, group_count, AreTypes};
-ghost use Rattle.binary_modules.specs.Read.{HasTypes, Knows, HasStood, HasRead, HasReadGroup};
+ghost use Rattle.binary_modules.specs.Read.{HasTypes, IsMixed, IsFound, IsOther, Knows, KeepsAs, HasRead, HasReadGroup};
+ghost use Rattle.binary_modules.specs.Read.{alone_at};
 
 use crate::lists::{list_for, make_room, read_so_many};
+use crate::mixed::RolledGroup;
 use crate::subtypes::read_mark;
 use binary_operators::{BinaryReader, CanonicalTypes, Fault, GroupNames, ReadError, push};
 use module_rules::RecGroup;
 use std::alloc::Global;
 use std::collections::BTreeMap;
+use std::slice;
 use validate_types::SubType;
 
 /// The recursion groups that differ.
 #[derive(Drop)]
 struct Groups {
-    /// Of each, rolled up, the index of its first type.
-    firsts: BTreeMap<Vec<SubType>, u32>,
+    /// The indices of types that are a group alone and are declared as they are rolled up, by the numbers that are
+    /// mixed from them: one at most for a number. Their types aren't kept once more.
+    alone: BTreeMap<u64, u32>,
+    /// Of each other group, rolled up, the index of its first type.
+    others: BTreeMap<RolledGroup, u32>,
+}
+
+/// Whether the group, rolled up, is the type at the index alone.
+fn is_alone(types: &[SubType], index: u32, group: &RolledGroup) -> bool
+    ensures yes { result ≡ true → alone_at types.now index ≡ Some group.now.types.items }
+    ensures no { result ≡ false → alone_at types.now index ≢ Some group.now.types.items }
+{
+    match types.get(index as usize) {
+        Some(ty) => group.types.as_slice() == slice::from_ref(ty),
+        None => false,
+    }
 }
 
 impl Groups {
     /// No groups. It takes no memory.
     fn new(alloc: Global) -> Groups
-        ensures { Knows result.firsts [] }
+        ensures { (types : List SubType) → Knows result types [] }
     {
         Groups {
-            firsts: BTreeMap::new(alloc),
+            alone: BTreeMap::new(alloc),
+            others: BTreeMap::new(alloc),
         }
     }
 
-    /// The index that stands for that of the first type of this group, which is rolled up: that of the first group that
-    /// is equal, or its own. It refuses want of memory.
-    fn stand(&mut self, rolled: Vec<SubType>, own: u32) -> Result<u32, ReadError>
-        ensures { IfOk result (λ first. (groups : List Group) → Knows self.old.firsts groups
-            → HasStood groups self.new.firsts rolled.items own first) }
+    /// The index of the type that the group is alone, if it is one of those.
+    fn find_alone(&self, types: &[SubType], group: &RolledGroup) -> Option<u32>
+        ensures found { IfSome result (λ first. get nat_cmp self.now.alone group.now.mixed ≡ Some first) }
+        ensures same { IfSome result (λ first. alone_at types.now first ≡ Some group.now.types.items) }
+        ensures other { result ≡ None → IsOther self.now types.now group.now }
     {
-        let place = self.firsts.entry(rolled)?;
-        Ok(*place.or_insert(own))
+        let first = *self.alone.get(&group.mixed)?;
+        if is_alone(types, first, group) {
+            Some(first)
+        } else {
+            None
+        }
+    }
+
+    /// The index that stands for that of the first type of the group, if an earlier group is equal. These are the types
+    /// of the module.
+    fn find(&self, types: &[SubType], group: &RolledGroup) -> Option<u32>
+        ensures { IsMixed group.now → (groups : List Group) → Knows self.now types.now groups
+            → IsFound groups group.now.types.items result }
+    {
+        match self.find_alone(types, group) {
+            Some(first) => Some(first),
+            None => self.others.get(group).copied(),
+        }
+    }
+
+    /// Whether the group is the type at the index alone, and no group has its number.
+    fn may_stand_alone(&self, types: &[SubType], group: &RolledGroup, first: u32) -> bool
+        ensures free { result ≡ true → get nat_cmp self.now.alone group.now.mixed ≡ None }
+        ensures alone { result ≡ true → alone_at types.now first ≡ Some group.now.types.items }
+    {
+        match self.alone.get(&group.mixed) {
+            Some(_) => false,
+            None => is_alone(types, first, group),
+        }
+    }
+
+    /// Keeps a group that is equal to none before it, and whose first type has this index. It refuses want of memory.
+    fn keep_new(
+        &mut self,
+        types: &[SubType],
+        group: RolledGroup,
+        first: u32,
+    ) -> Result<(), ReadError>
+        ensures { OnOk result (KeepsAs self.old self.new types.now group None first) }
+    {
+        if self.may_stand_alone(types, &group, first) {
+            self.alone.insert(group.mixed, first)?;
+            return Ok(());
+        }
+        self.others.insert(group, first)?;
+        Ok(())
+    }
+
+    /// Keeps a group if it is equal to none before it, so that no index was found for it. Its first type has this index
+    /// of its own. It refuses want of memory.
+    fn keep(
+        &mut self,
+        types: &[SubType],
+        group: RolledGroup,
+        found: Option<u32>,
+        own: u32,
+    ) -> Result<(), ReadError>
+        ensures { OnOk result (KeepsAs self.old self.new types.now group found (unwrap_or found own)) }
+    {
+        match found {
+            Some(_) => Ok(()),
+            None => self.keep_new(types, group, own),
+        }
     }
 }
 
@@ -151,8 +232,8 @@ impl TypeSection {
         reader: &mut BinaryReader<'_>,
         groups: &mut Groups,
     ) -> Result<(), ReadError>
-        ensures { OnOk result ((before : List Group) → HasRead self.old groups.old.firsts before
-            → HasReadGroup before reader.old.left reader.new.left self.new groups.new.firsts) }
+        ensures { OnOk result ((before : List Group) → HasRead self.old groups.old before
+            → HasReadGroup before reader.old.left reader.new.left self.new groups.new) }
     {
         let offset = reader.offset();
         let Ok(first) = u32::try_from(self.canonical.len()) else {
@@ -162,8 +243,10 @@ impl TypeSection {
         let count = read_count(reader, explicit)?;
         let mut again = reader.duplicate();
         let rolled = read_rolled(alloc, reader, &self.canonical, count)?;
-        let stands = groups.stand(rolled, first)?;
-        self.declare(alloc, &mut again, stands, count)?;
+        let group = RolledGroup::new(rolled);
+        let found = groups.find(&self.types, &group);
+        self.declare(alloc, &mut again, found.unwrap_or(first), count)?;
+        groups.keep(&self.types, group, found, first)?;
         push(
             &mut self.groups,
             RecGroup {

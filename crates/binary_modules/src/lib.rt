@@ -13,6 +13,7 @@ mod initializers;
 mod items;
 mod limits;
 mod lists;
+mod mixed;
 mod names;
 mod own;
 mod owned;

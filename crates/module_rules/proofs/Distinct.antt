@@ -1,6 +1,6 @@
 -- Names that differ, one more at a time, and a set that holds them.
 use Rattle.std.proofs.Common.{◌≡◌, ◌∙◌, ℕ, Bool, true, false, ◌&&◌, ◌||◌, not, cond, List, [], ◌∷◌, ◌++◌}
-use Rattle.std.proofs.Common.{map, take, drop, length, Bor, refl, ap, sym, arith, ◌==◌}
+use Rattle.std.proofs.Common.{map, take, drop, Bor, refl, ap, sym, arith, ◌==◌}
 use Rattle.std.specs.BTreeSet.{BTreeSet, contains, Updates}
 use Rattle.std.specs.Cmp.Lexicographic.{slice_cmp}
 use Rattle.std.specs.List.{list_any}
@@ -16,15 +16,16 @@ use Rattle.std.proofs.lemmas.Map.Text.{is_eq-slice_cmp}
 use Rattle.std.proofs.lemmas.Slice.Eq.{bytes_eq-Decides}
 use Rattle.module_rules.specs.Exported.{Exported}
 use Rattle.module_rules.specs.Exports.{are_distinct}
+use Rattle.module_rules.specs.Names.{mix_name}
 
 abbrev pub names_of : List Exported → List (List ℕ)
 names_of es = map (λ (e : Exported). e.name) es
 
--- a name with its length
+-- a name behind the number that is mixed from it
 abbrev pub keyed : Bor (List ℕ) → ℕ × Bor (List ℕ)
-keyed name = (length name.now, name)
+keyed name = (mix_name name.now, name)
 
--- the order of names: by their lengths, then by their texts
+-- the order of names: by their numbers, then by their texts
 abbrev pub key_order : ℕ × Bor (List ℕ) → ℕ × Bor (List ℕ) → Ordering
 key_order x y = ordering_then (nat_cmp x.0 y.0) (slice_cmp nat_cmp x.1.now y.1.now)
 
@@ -64,11 +65,11 @@ same-name : (x y : Bor (List ℕ)) → is_eq (key_order (keyed x) (keyed y)) ≡
 same-name x y = cases (bytes_eq x.now y.now) refl
   where
     alike : x.now ≡ y.now → is_eq (key_order (keyed x) (keyed y)) ≡ is_eq (slice_cmp nat_cmp x.now y.now)
-    alike e = ap (λ k. is_eq (ordering_then k (slice_cmp nat_cmp x.now y.now))) (ap (λ (n : List ℕ). nat_cmp (length x.now) (length n)) (sym e) ∙ level (length x.now))
+    alike e = ap (λ k. is_eq (ordering_then k (slice_cmp nat_cmp x.now y.now))) (ap (λ (n : List ℕ). nat_cmp (mix_name x.now) (mix_name n)) (sym e) ∙ level (mix_name x.now))
 
     cases : (b : Bool) → bytes_eq x.now y.now ≡ b → is_eq (key_order (keyed x) (keyed y)) ≡ bytes_eq x.now y.now
     cases true e = alike ((bytes_eq-Decides x.now y.now).0 e) ∙ is_eq-slice_cmp x.now y.now
-    cases false e = unlike (nat_cmp (length x.now) (length y.now)) (slice_cmp nat_cmp x.now y.now) (is_eq-slice_cmp x.now y.now ∙ e) ∙ sym e
+    cases false e = unlike (nat_cmp (mix_name x.now) (mix_name y.now)) (slice_cmp nat_cmp x.now y.now) (is_eq-slice_cmp x.now y.now ∙ e) ∙ sym e
 
 -- a name is put into the set
 pub holds-push : (s n : BTreeSet (ℕ × Bor (List ℕ))) (key : Bor (List ℕ)) (names : List (List ℕ)) → Holds s names → Updates key_order s n (keyed key) true → Holds n (names ++ key.now ∷ [])

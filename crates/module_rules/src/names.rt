@@ -3,6 +3,7 @@
 ghost use Rattle.std.specs.Prelude.{◌≡◌, true, false, map, IfErr, OnOk};
 ghost use Rattle.module_rules.specs.Exported.{Exported};
 ghost use Rattle.module_rules.specs.Exports.{are_distinct};
+ghost use Rattle.module_rules.specs.Names.{mix, mix_name};
 
 use crate::items::Export;
 use std::alloc::Global;
@@ -18,8 +19,30 @@ fn duplicate(alloc: Global, export: &Export) -> Error {
     )
 }
 
-/// No two exports have one name. It takes memory for the set of the names. They are ordered by their lengths first, since those
-/// of compiled code begin alike.
+/// What each sum is multiplied by. It is odd, so that no two sums become equal.
+const FACTOR: u64 = 0x9e37_79b9_7f4a_7c15;
+
+/// Mixes a byte more into a number.
+#[tactic(auto, unfolding(crate::specs::Names::mix))]
+fn mix(mixed: u64, byte: u8) -> u64
+    ensures { result ≡ mix mixed byte }
+{
+    mixed.wrapping_add(u64::from(byte)).wrapping_mul(FACTOR)
+}
+
+/// The number that is mixed from a name.
+fn mix_name(name: &str) -> u64
+    ensures { result ≡ mix_name name.now }
+{
+    let mut mixed = 0;
+    for byte in name.as_bytes() {
+        mixed = mix(mixed, *byte);
+    }
+    mixed
+}
+
+/// No two exports have one name. It takes memory for the set of the names. They are ordered by the numbers that are mixed
+/// from them first, so that few texts are compared: those of compiled code begin alike.
 pub fn check_names(alloc: Global, exports: &[Export]) -> Result<(), Error>
     ensures valid { OnOk result (are_distinct (map (λ (e : Exported). e.name) exports.now) ≡ true) }
     ensures invalid { IfErr result (λ e. e.wants_memory ≡ false
@@ -28,7 +51,7 @@ pub fn check_names(alloc: Global, exports: &[Export]) -> Result<(), Error>
     let mut names = BTreeSet::new(alloc);
     for export in exports {
         let name = export.name.as_str();
-        match names.insert((name.len(), name)) {
+        match names.insert((mix_name(name), name)) {
             Ok(true) => {}
             Ok(false) => return Err(duplicate(alloc, export)),
             Err(_) => return Err(Error::out_of_memory(export.offset)),

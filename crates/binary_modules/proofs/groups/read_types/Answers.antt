@@ -13,7 +13,7 @@ loop-init c = (
     types = c.make_room.ensures.types ∙ c.new-section.ensures.types;
     canonical = c.make_room.ensures.canonical ∙ c.new-section.ensures.canonical;
     written = ap (map written_shape) (c.make_room.ensures.groups ∙ c.new-section.ensures.groups);
-    known = c.new-groups.ensures;
+    known = c.new-groups.ensures _;
   },
   refl,
 )

@@ -8,5 +8,5 @@ abbrev pub invariant-loop : goal.invariant-loop
 invariant-loop l =
     (groups : List Group)
     × AreGroups [] l.initial.reader.left groups l.reader.left
-    × HasRead l.section l.groups.firsts groups
+    × HasRead l.section l.groups groups
     × (length groups ≡ l.counter)

@@ -1,4 +1,5 @@
-use Rattle.std.proofs.Common.{◌≡◌, ◌∙◌, ◌+◌, true, false, List, ℕ, [], ◌∷◌, ◌++◌, take, length, ap, sym, arith, get_or, ◌<◌}
+use Rattle.std.proofs.Common.{◌≡◌, ◌∙◌, ◌+◌, true, false, List, ℕ, [], ◌∷◌, ◌++◌, take, length, ap, sym, subst, arith, get_or, ◌<◌}
+use Rattle.std.specs.BTreeSet.{contains, Updates}
 use Rattle.std.specs.List.{list_any}
 use Rattle.std.specs.Str.{bytes_eq}
 use Rattle.std.proofs.lemmas.Bool.{not-true, not-false}
@@ -6,7 +7,7 @@ use Rattle.std.proofs.lemmas.Grind.{common_steps}
 use Rattle.std.proofs.lemmas.List.{map_more}
 use Rattle.module_rules.specs.Exported.{Exported}
 use Rattle.module_rules.specs.Exports.{are_distinct}
-use Rattle.module_rules.proofs.Distinct.{names_of, holds-push, distinct-new, distinct-old, whole-false}
+use Rattle.module_rules.proofs.Distinct.{key_order, names_of, holds-push, distinct-new, distinct-old, whole-false}
 use Rattle.module_rules.proofs.names.check_names.Goals as goal
 
 -- the names so far, and one more
@@ -20,7 +21,7 @@ returns-in-Ok-false-clause-invalid c =
     let key = c.as_str-name.result in
     let name : key.now ≡ (get_or es i c.export-item.result).name = grind (arith, common_steps) in
     let known : list_any (bytes_eq key.now) (names_of (take i es)) ≡ true =
-    sym (c.loop-export.invariant.held key) ∙ not-false _ (sym c.in-Ok-false.ensures.added ∙ c.in-Ok-false.field-0-test) in
+    sym (c.loop-export.invariant.held key) ∙ ap (λ n. contains key_order c.loop-export.names (n, key)) (sym c.mix_name.ensures) ∙ not-false _ (sym c.in-Ok-false.ensures.added ∙ c.in-Ok-false.field-0-test) in
     λ _. whole-false es (i + 1) (ap are_distinct (more es i c.export-item.result key.now c.loop-export-test.true name) ∙ distinct-old _ key.now known)
 
 pub loop-export-preserved : goal.loop-export-preserved
@@ -31,9 +32,10 @@ loop-export-preserved c =
     let name : key.now ≡ (get_or es i c.export-item.result).name = grind (arith, common_steps) in
     let names = more es i c.export-item.result key.now c.loop-export-test.true name in
     let absent : list_any (bytes_eq key.now) (names_of (take i es)) ≡ false =
-    sym (c.loop-export.invariant.held key) ∙ not-true _ (sym c.in-Ok-true.ensures.added ∙ c.in-Ok-true.field-0-test) in
+    sym (c.loop-export.invariant.held key) ∙ ap (λ n. contains key_order c.loop-export.names (n, key)) (sym c.mix_name.ensures) ∙ not-true _ (sym c.in-Ok-true.ensures.added ∙ c.in-Ok-true.field-0-test) in
+    let U : ℕ → Type 0 = λ n. Updates key_order c.loop-export.names c.insert.new.self (n, key) true in
     record {
       distinct = ap are_distinct names ∙ distinct-new _ key.now c.loop-export.invariant.distinct absent;
-      held = λ q. holds-push c.loop-export.names c.insert.new.self key _ c.loop-export.invariant.held c.in-Ok-true.ensures.updates q
+      held = λ q. holds-push c.loop-export.names c.insert.new.self key _ c.loop-export.invariant.held (subst U c.mix_name.ensures c.in-Ok-true.ensures.updates) q
           ∙ sym (ap (list_any (bytes_eq q.now)) names);
     }

@@ -1,20 +1,27 @@
 """The crates of the repository, and checks of one of them over the libraries that `rt ci` left below it in crates/*/out."""
 
-import hashlib
-import os
 import re
+import shutil
 import subprocess
+import sys
 from pathlib import Path
 
 ROOT = Path(__file__).resolve().parent.parent
 KIT = Path(subprocess.run(["rt", "doc"], stdout=subprocess.PIPE, text=True, check=True).stdout.strip()).parent
-CACHE = Path(os.environ.get("XDG_CACHE_HOME") or Path.home() / ".cache") / "tansyattic"
 PARTS = ("src", "specs", "proofs")
 ALL_CHECKED = re.compile(r"checked .*, (\d+) of \1$")
 
 
 class Unusable(Exception):
     """Why an edit, or a library that a check needs, can't be used."""
+
+
+def end(main, *words):
+    """Ends a tool with what its main function answers, or with what can't be used."""
+    try:
+        sys.exit(main(*words))
+    except Unusable as why:
+        sys.exit(f"{why}")
 
 
 def graph():
@@ -24,21 +31,21 @@ def graph():
     return {name.split()[0]: used.split() for name, used in named}
 
 
+def folder_of(crate):
+    """Returns the folder of a crate."""
+    return ROOT / "crates" / crate
+
+
 def files_of(folder):
     """Returns the files of a crate that a check reads."""
     return sorted(it for part in PARTS for it in (folder / part).rglob("*") if it.is_file())
 
 
-def sum_of(crate, uses, known):
-    """Returns a sum of what a check of the crate reads: its files, and those of the crates below."""
-    if crate not in known:
-        folder, sum = ROOT / "crates" / crate, hashlib.sha256()
-        for file in files_of(folder):
-            sum.update(repr((str(file.relative_to(folder)), file.read_bytes())).encode())
-        below = [(it, sum_of(it, uses, known) if it in uses else "") for it in uses[crate]]
-        sum.update(repr((below, (KIT / "KIT-ID").read_bytes())).encode())
-        known[crate] = sum.hexdigest()
-    return known[crate]
+def copy_to(room, crate):
+    """Copies what a check of a crate reads to a folder."""
+    for part in PARTS:
+        if (folder_of(crate) / part).is_dir():
+            shutil.copytree(folder_of(crate) / part, room / part)
 
 
 def below(crate, uses):
@@ -61,7 +68,7 @@ def words_of(does, crate, uses, room, kept=()):
     words = [KIT / "bin/rattle", does, "--crate-name", crate, root_file(room), "-L", f"dependency={KIT}/rlibs"]
     words += [it for lib in ["std", *[k for k in kits if k in uses[crate]]] for it in ("--extern", f"{lib}={KIT}/rlibs/{lib}.rlib")]
     for it in ours:
-        rlib = dict(kept).get(it, ROOT / "crates" / it / "out/rlib") / f"{it}.rlib"
+        rlib = dict(kept).get(it, folder_of(it) / "out/rlib") / f"{it}.rlib"
         if not rlib.is_dir():
             raise Unusable(f"{crate}: the library {it} isn't built: run rt ci first, or rt lib in its folder")
         words += ["--extern", f"{it}={rlib}"] if it in uses[crate] else []

@@ -1,15 +1,119 @@
-"""Edits: files with lines 'file: PATH', 'old: TEXT' (standing once in that file) and 'new: TEXT', as often as wanted, and
-what they are to break; and copies of a crate in which they are made."""
+"""Edits of crates: files with lines 'file: PATH', 'old: TEXT' (standing once in that file) and 'new: TEXT', as often as
+wanted, and what they are to break; the functions that they edit, as the text of a crate has them: where each stands, how it
+is called, what it promises, and what calls it; and copies of a crate in which they are made."""
 
 import dataclasses
 import re
 import shutil
 from pathlib import Path
 
-from crates import ROOT, Unusable, files_of
-from functions import FUNCTION, Function, copied_impl, function_at, functions_in
+from crates import Unusable, files_of, folder_of
 
+FUNCTION = re.compile(r"^( *)(?:pub(?:\([^)]*\))? +)?(?:const +)?(?:unsafe +)?(?:extern +\"C\" +)?fn +(\w+)", re.M)
+IMPL = re.compile(r"^( *)impl\b([^{]*)\{", re.M)
+SHUT = re.compile(r"^( *)(?:pub(?:\([^)]*\))? +)?(?:trait\b|macro_rules!)", re.M)
+ENSURES = re.compile(r"^ *ensures\*? *(\w*) *\{", re.M)
 BREAKS = re.compile(r"(\w+)(?: of ([\w:]+))?(?: by ([\w-]+))?")
+
+
+@dataclasses.dataclass(frozen=True)
+class Function:
+    """A function of a crate's src/: its file, its first and last line there, and its name below the crate."""
+
+    file: str
+    first: int
+    last: int
+    name: str
+
+    def lines_in(self, folder):
+        """Returns its lines, where the crate stands in this folder."""
+        return (folder / self.file).read_text().split("\n")[self.first - 1 : self.last]
+
+
+def block_end(text, start, indent):
+    """Returns where the block that begins at a place with this indent ends."""
+    end = re.compile(rf"^{indent}\}}", re.M).search(text, start)
+    return end.end() if end else len(text)
+
+
+def module_of(file):
+    """Returns the name of the module that a file of src/ is."""
+    return re.sub(r"^src/|/?(lib|main|mod)\.rt$|\.rt$", "", file).replace("/", "::")
+
+
+def home(folder, file, ty):
+    """Returns the module that declares a type, which its methods are named after, wherever they stand."""
+    declares = re.compile(rf"\b(?:struct|enum) {ty}\b")
+    found = [it for it in files_of(folder) if it.suffix == ".rt" and declares.search(it.read_text())]
+    return module_of(str((found or [folder / file])[0].relative_to(folder)))
+
+
+def impl_around(text, place):
+    """Returns the head of the impl that holds a place of a file, the trait and the type, `Any` where that is a parameter
+    of the impl; or None where none does."""
+    for found in IMPL.finditer(text):
+        if found.start() < place < block_end(text, found.start(), found[1]):
+            params, head = re.match(r"(<.*?>(?= ))?(.*)", re.sub(r"\bwhere\b.*", "", found[2], flags=re.S), re.S).groups("")
+            trait, _, of = head.strip().rpartition(" for ")
+            ty = re.match(r"\w+", of)[0]
+            return found[0], trait, "Any" if re.search(rf"[<,] *{ty} *[:,>]", params) else ty
+    return None
+
+
+def owner(folder, file, text, place):
+    """Returns the module, and the type of the impl with its trait, by which a function at a place of a file is named."""
+    if around := impl_around(text, place):
+        _, trait, ty = around
+        if trait:
+            return [module_of(file), ty + "".join(re.findall(r"(?<!')\b[A-Z]\w*", trait))]
+        return [home(folder, file, ty), ty]
+    return [module_of(file)]
+
+
+def head(text, start):
+    """Returns where the comments and attributes above an item begin."""
+    lines = text[:start].split("\n")[:-1]
+    while lines and lines[-1].lstrip().startswith(("#[", "///")):
+        start -= len(lines.pop()) + 1
+    return start
+
+
+def functions_in(text):
+    """Returns where the functions of a file stand, but for those of traits and macros."""
+    shut = [(it.start(), block_end(text, it.start(), it[1])) for it in SHUT.finditer(text)]
+    return [it for it in FUNCTION.finditer(text) if not any(start < it.start() < end for start, end in shut)]
+
+
+def function_at(folder, file, place):
+    """Returns the function of a file of a crate that holds a place of it, the outermost if it has others inside."""
+    text = (folder / file).read_text()
+    for found in functions_in(text):
+        end = block_end(text, found.start(), found[1])
+        if found.start() <= place < end:
+            path = [it for it in (*owner(folder, file, text, place), found[2]) if it]
+            lines = [text.count("\n", 0, it) + 1 for it in (head(text, found.start()), end)]
+            return Function(file, *lines, "::".join(path))
+    return None
+
+
+def copied_impl(crate, function):
+    """Returns the head of the impl that a copy of a function needs, with what its clauses use there, "" where it needs none,
+    or None where none can be made."""
+    text = (folder_of(crate) / function.file).read_text()
+    place = sum(len(line) + 1 for line in text.split("\n")[: function.last - 1])
+    around = impl_around(text, place)
+    if around and around[1]:
+        return None
+    if not around:
+        return ""
+    start = text.rfind(around[0], 0, place)
+    used = re.findall(r"^ +ghost use [^;]*;", text[start : block_end(text, start, "")], re.M)
+    return "\n".join([around[0], *used])
+
+
+def clauses(crate, function):
+    """Returns what the clauses of a function are called, where it has its own."""
+    return [it or "ensures" for it in ENSURES.findall("\n".join(function.lines_in(folder_of(crate))))]
 
 
 @dataclasses.dataclass(frozen=True)
@@ -25,21 +129,17 @@ class WrongBody:
 
 def pairs_of(text):
     """Returns what an edit changes: of each place the file, and its text before and behind the edit."""
-    path, old, pairs = "", None, []
-    for line in text.split("\n"):
-        kind, _, said = line.partition(":")
-        if kind == "file":
-            path = said.strip()
-        elif kind == "old":
-            old = said.removeprefix(" ")
-        elif kind == "new":
-            pairs.append((path, old, said.removeprefix(" ")))
+    said, pairs = {}, []
+    for kind, line in re.findall(r"^(file|old|new): ?(.*)$", text, re.M):
+        said[kind] = line
+        if kind == "new":
+            pairs.append((said["file"].strip(), said.get("old"), line))
     return tuple(pairs)
 
 
 def read_body(crate, file):
     """Reads a wrong body of a crate."""
-    folder, text = ROOT / "crates" / crate, file.read_text()
+    folder, text = folder_of(crate), file.read_text()
     pairs = pairs_of(text)
     if not pairs or len(pairs) != len(re.findall(r"^old:", text, re.M)):
         raise Unusable(f"{crate}/{file.stem}: an `old` of it has no `new`")
@@ -54,7 +154,7 @@ def read_body(crate, file):
 def edited(crate, body):
     """Returns the lines of the files that an edit changes, by their path, each as many as before."""
     paths = {*(path for path, _, _ in body.pairs), *(it.file for it in body.functions if it)}
-    texts = {path: (ROOT / "crates" / crate / path).read_text() for path in paths}
+    texts = {path: (folder_of(crate) / path).read_text() for path in paths}
     lines = {path: text.count("\n") for path, text in texts.items()}
     for path, old, new in body.pairs:
         if texts[path].count(old) != 1:
@@ -68,7 +168,7 @@ def edited(crate, body):
 def apply(room, crate, body):
     """Applies an edit to a copy of a crate, which may have others in other lines."""
     for path, lines in edited(crate, body).items():
-        before = (ROOT / "crates" / crate / path).read_text().split("\n")
+        before = (folder_of(crate) / path).read_text().split("\n")
         now = (room / path).read_text().split("\n")
         here = [new if new != old else it for new, old, it in zip(lines, before, now)]
         (room / path).write_text("\n".join(here))
@@ -97,11 +197,9 @@ def apply_to_copy(room, crate, body, number):
 
 def called_by(crate, bodies):
     """Returns the functions of a crate that these may call, edited or not, by their names, but for those of traits and macros."""
-    folder, called, found = ROOT / "crates" / crate, set(), set()
+    folder, called, found = folder_of(crate), set(), set()
     for body in bodies:
-        lines = [new for _, _, new in body.pairs]
-        for it in body.functions:
-            lines += (folder / it.file).read_text().split("\n")[it.first - 1 : it.last]
+        lines = [new for *_, new in body.pairs] + [line for it in body.functions for line in it.lines_in(folder)]
         called |= set(re.findall(r"\b(\w+)(?:::<[^()]*>)?\(", "\n".join(lines)))
     for file in (str(it.relative_to(folder)) for it in files_of(folder) if it.suffix == ".rt"):
         text = (folder / file).read_text()

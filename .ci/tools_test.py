@@ -1,17 +1,22 @@
-#!/usr/bin/env python3
-"""Tests of the tools that try wrong bodies and planted changes: what they find in a crate's text, which edits they take
-and what counts as a refusal. And of those that read the table of operators, and write from it."""
+#!/usr/bin/env -S python3 -B
+"""Tests of the tools that try wrong bodies and planted changes: what they find in a crate's text, which edits they take,
+what counts as a refusal, and what is kept of it. And of those that read the table of operators, and write from it."""
 
 import importlib.machinery
 import importlib.util
 import tempfile
 import unittest
 from pathlib import Path
+from unittest import mock
 
+import crates
 import edits
-import functions
 import operators
-from crates import ROOT, Unusable, below
+import trials
+import verdicts
+from crates import Unusable, below
+
+TOOLS = Path(__file__).parent
 
 SOURCE = """//! A crate.
 /// Doubles.
@@ -54,7 +59,7 @@ macro_rules! seen {
 
 def tool(name):
     """Loads a tool whose file has no ending."""
-    loader = importlib.machinery.SourceFileLoader(name.replace("-", "_"), str(ROOT / ".ci" / name))
+    loader = importlib.machinery.SourceFileLoader(name.replace("-", "_"), str(TOOLS / name))
     module = importlib.util.module_from_spec(importlib.util.spec_from_loader(loader.name, loader))
     loader.exec_module(module)
     return module
@@ -71,13 +76,17 @@ class OfACrate(unittest.TestCase):
         (self.folder / "src").mkdir(parents=True)
         (self.folder / "src/counter.rt").write_text("pub struct Counter {}\n")
         (self.folder / "src/lib.rt").write_text(SOURCE)
-        for module in (edits, functions):
-            before, module.ROOT = module.ROOT, self.root
-            self.addCleanup(setattr, module, "ROOT", before)
+        self.put(crates, "ROOT", self.root)
+
+    def put(self, module, name, value):
+        """Puts a value in the place of a module's, for one test."""
+        patch = mock.patch.object(module, name, value)
+        patch.start()
+        self.addCleanup(patch.stop)
 
     def named(self, text):
         """The function that holds a text of the source."""
-        return functions.function_at(self.folder, "src/lib.rt", SOURCE.index(text))
+        return edits.function_at(self.folder, "src/lib.rt", SOURCE.index(text))
 
     def body(self, *pairs):
         """An edit of the source: so many texts with what stands in their place."""
@@ -86,7 +95,7 @@ class OfACrate(unittest.TestCase):
 
 class Functions(OfACrate):
     def test_a_function_has_its_name_and_the_lines_from_its_comment_on(self):
-        self.assertEqual(self.named("n + n\n"), functions.Function("src/lib.rt", 2, 8, "double"))
+        self.assertEqual(self.named("n + n\n"), edits.Function("src/lib.rt", 2, 8, "double"))
 
     def test_a_method_is_named_after_the_module_of_its_type(self):
         self.assertEqual(self.named("double(1)").name, "counter::Counter::add")
@@ -99,15 +108,15 @@ class Functions(OfACrate):
         self.assertIsNone(self.named("fn named"))
 
     def test_clauses_are_named(self):
-        self.assertEqual(functions.clauses("counts", self.named("n + n\n")), ["twice"])
-        self.assertEqual(functions.clauses("counts", self.named("double(1)")), ["ensures", "kept"])
+        self.assertEqual(edits.clauses("counts", self.named("n + n\n")), ["twice"])
+        self.assertEqual(edits.clauses("counts", self.named("double(1)")), ["ensures", "kept"])
 
     def test_a_copy_of_a_method_takes_what_its_impl_uses(self):
-        head = functions.copied_impl("counts", self.named("double(1)"))
+        head = edits.copied_impl("counts", self.named("double(1)"))
         self.assertEqual(head, "impl Counter {\n    ghost use Rattle.counts.specs.Count.{count};")
 
     def test_a_method_of_a_trait_has_no_copy(self):
-        self.assertIsNone(functions.copied_impl("counts", self.named("        2\n")))
+        self.assertIsNone(edits.copied_impl("counts", self.named("        2\n")))
 
 
 class Edits(OfACrate):
@@ -142,14 +151,9 @@ class Edits(OfACrate):
 class Refusals(OfACrate):
     SAID = "./src/lib.rt:4:1: error: it is not proved that n ≡ n + n (`returns-clause-twice`)\n"
 
-    def setUp(self):
-        super().setUp()
-        self.tool = tool("wrong-bodies")
-        self.tool.ROOT = self.root
-
     def refused(self, said, breaks):
         body = edits.WrongBody("wrong", (), frozenset([self.named("n + n\n")]), breaks)
-        return self.tool.refusal("counts", body, self.tool.goals_in(self.folder, said))
+        return trials.refusal("counts", body, trials.goals_in(self.folder, said))
 
     def test_a_goal_of_the_clause_is_a_refusal(self):
         self.assertIn("returns-clause-twice", self.refused(self.SAID, ("twice", "", "")))
@@ -165,6 +169,49 @@ class Refusals(OfACrate):
         said = self.SAID.replace("returns-clause-twice", "loop-place-behind")
         self.assertIsNone(self.refused(said, ("twice", "", "")))
         self.assertIsNotNone(self.refused(said, ("twice", "", "loop-place")))
+
+
+class Verdicts(OfACrate):
+    """Tests of what is kept of earlier runs, in a folder of their own."""
+
+    USES = {"counts": ["low"], "low": []}
+
+    def setUp(self):
+        super().setUp()
+        self.put(verdicts, "CACHE", self.root / "kept")
+
+    def test_what_was_kept_is_found_for_the_same_parts_alone(self):
+        self.assertIsNone(verdicts.kept("sum", "wrong", b"old: x"))
+        verdicts.keep("refused: at once", "sum", "wrong", b"old: x")
+        self.assertEqual(verdicts.kept("sum", "wrong", b"old: x"), "refused: at once")
+        self.assertIsNone(verdicts.kept("sum", "wrong", b"old: y"))
+
+    def test_another_tool_keeps_nothing_of_this_one(self):
+        verdicts.keep("refused: at once", "sum")
+        with mock.patch.object(verdicts, "TOOL", verdicts.TOOL[1:]):
+            self.assertIsNone(verdicts.kept("sum"))
+
+    def test_a_sum_changes_with_each_file_of_the_crate_and_of_those_below(self):
+        before = verdicts.sum_of("counts", self.USES, {})
+        self.assertEqual(verdicts.sum_of("counts", self.USES, {}), before)
+        (self.root / "crates/low/proofs").mkdir(parents=True)
+        (self.root / "crates/low/proofs/Lemma.antt").write_text("-- a lemma")
+        below = verdicts.sum_of("counts", self.USES, {})
+        (self.folder / "src/counter.rt").write_text("pub struct Counter;\n")
+        self.assertEqual(len({before, below, verdicts.sum_of("counts", self.USES, {})}), 3)
+
+    def test_only_what_is_as_it_is_to_be_is_kept(self):
+        text = "file: src/lib.rt\nold:     n + n\nnew:     n\nbreaks: twice\n"
+        (self.folder / "wrong-bodies").mkdir()
+        for name in ("refused", "proved"):
+            (self.folder / f"wrong-bodies/{name}.edit").write_text(text)
+        found = {"refused": trials.Verdict("refused: at once", True), "proved": trials.Verdict("NOT REFUSED", False)}
+        wrong_bodies, tried = tool("wrong-bodies"), []
+        wrong_bodies.try_bodies = lambda _, __, bodies: tried.append([it.name for it in bodies]) or {it: found[it] for it in tried[-1]}
+        for _ in range(2):
+            lines, failed = wrong_bodies.tell_bodies("counts", self.USES, ["wrong-bodies"], "sum")
+            self.assertEqual((lines, failed), (["counts/proved: NOT REFUSED", "counts/refused: refused: at once"], 1))
+        self.assertEqual(tried, [["proved", "refused"], ["proved"]])
 
 
 class Graph(unittest.TestCase):

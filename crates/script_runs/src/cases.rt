@@ -18,7 +18,7 @@
 //! - `@wanting CHECK`: the same over a lookup of which this check finds no memory each other time, the first time too.
 //!
 //! Behind `@scripts` and `@each` the words `with custom_descriptors` may say that scripts without `feature` lines
-//! answer so with custom descriptors alone: `.ci/ways` doesn't run these without them.
+//! answer so with custom descriptors alone: `tests/ways.py` doesn't run these without them.
 
 use crate::bodies::Lookup;
 use crate::flags::{all_but, is_flag};

@@ -5,7 +5,7 @@
 //! prints; it is accepted.
 //!
 //! A script runs as one list, with both outputs and its status compared; and operator by operator, each attempted,
-//! where a refused one has to leave all frames and operands as they were. `.ci/ways` runs each in further ways, which
+//! where a refused one has to leave all frames and operands as they were. `tests/ways.py` runs each in further ways, which
 //! a first line before the names asks for.
 //!
 //! With the words `--runs N` its standard input is one script instead, as `opcheck` reads it, and it prints how long the

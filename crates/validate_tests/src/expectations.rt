@@ -1,7 +1,7 @@
 //! What a test expects. A call of these is proved at once, where a branch for what isn't met, and the text
 //! of it, cost seconds each.
 //!
-//! Where memory is wanting a test ends its process, in words of its own (`WANTING`): so `.ci/growths` can ask for these,
+//! Where memory is wanting a test ends its process, in words of its own (`WANTING`): so `tests/growths.py` can ask for these,
 //! and no function has a way out of which all that is dropped there would be proved.
 
 ghost use Rattle.std.specs.Prelude.{◌≡◌, true, Ok};
@@ -12,7 +12,7 @@ use std::fmt::Debug;
 use std::process::Abort;
 use wasmparser_validate::types::{Error, OutOfMemory};
 
-/// The last words of a test for which memory was wanting (`.ci/growths.c`).
+/// The last words of a test for which memory was wanting (`tests/c/growths.c`).
 const WANTING: &str = "memory is wanting";
 
 /// It is so.

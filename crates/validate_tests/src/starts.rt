@@ -185,7 +185,7 @@ fn worked_examples_in_used_buffers(rt: HostRuntime) {
 }
 
 /// Where memory is wanting there are no locals, and the same call declares them once there is memory: which is said, for
-/// `.ci/growths.c`.
+/// `tests/c/growths.c`.
 fn expect_the_same_call<R: WasmModuleResources>(
     rt: &(impl Abort + Print),
     v: &mut OperatorValidator,

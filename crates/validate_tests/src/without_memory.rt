@@ -1,4 +1,4 @@
-//! Operators that take no memory outside an attempt: each is accepted where there is none (`.ci/growths.c`).
+//! Operators that take no memory outside an attempt: each is accepted where there is none (`tests/c/growths.c`).
 
 use crate::expectations::{ample, expect, wants_memory};
 use crate::modules::{lists_of, new_function};

@@ -1,4 +1,4 @@
-//! The library's own calls, as `ffi/tansyattic.h` declares them. `.ci/ffi` compares the numbers, and nothing the rest.
+//! The library's own calls, as `ffi/tansyattic.h` declares them. `.ci/reasons` compares the numbers, and nothing the rest.
 
 use core::ffi::c_void;
 use core::ptr;

@@ -1,79 +1,34 @@
--- Operands put in place or taken where no attempt is pending, and what fits at once.
-use Rattle.std.proofs.Common.{◌≡◌, ◌≢◌, ◌⊎◌, inl, inr, min, reverse, Ok, MatchOption, MatchBool, ℕ, zero, suc, ◌+◌, ◌-◌, ◌<◌, ◌≤◌, List, [], ◌∷◌, Bool, true, false, Option, Some, None, is_some, length, get_or, map, slice_get, take, drop, refl, sym, ◌∙◌, ap, subst, arith}
+-- Operands put in place or taken at once in a body, and what fits at once.
+use Rattle.std.proofs.Common.{◌≡◌, ◌≢◌, ◌⊎◌, inl, inr, min, reverse, Ok, MatchBool, ℕ, suc, ◌+◌, ◌-◌, ◌<◌}
+use Rattle.std.proofs.Common.{◌≤◌, List, [], ◌∷◌, Bool, true, false, Option, Some, None, length, get_or, map}
+use Rattle.std.proofs.Common.{take, drop, refl, sym, ◌∙◌, ap, subst, arith}
 use Rattle.std.specs.List.{AllByRecursion}
 use Rattle.std.specs.Option.{option_map}
-use Rattle.std.proofs.lemmas.List.{at_drop_more, append-nil, drop_all, drop_min, drop-drop, length-drop, length-map, length-reverse, length-take-le, take_all, take-append-drop, take-append-le, take-take}
-use Rattle.std.proofs.Math.Seq.{take-add}
+use Rattle.std.proofs.lemmas.List.{at_drop_more, append-nil, drop_all, drop_min, length-drop, length-map}
+use Rattle.std.proofs.lemmas.List.{length-reverse, take_all, take-append-le}
 use Rattle.validate_resources.specs.Context.{ModuleContext, Valid, IsLawful}
-use Rattle.validate_types.specs.declared.features.WasmFeatures.{WasmFeatures}
 use Rattle.validate_types.specs.declared.types.ValType.{ValType}
 use Rattle.validate_visit.specs.declared.frame.BlockType.{BlockType}
-use Rattle.validate_visit.specs.declared.frame.Frame.{Frame as FlatFrame}
 use Rattle.validate_visit.specs.declared.frame.FrameKind.{FrameKind}
-use Rattle.validate_transaction.specs.declared.log.Transaction.{Transaction}
-use Rattle.validate_transaction.specs.declared.log.Transaction.TheVariants.{Active, Inactive}
-use Rattle.validate_transaction.specs.Recorded.{log_of, with_push, with_opened}
 use Rattle.validation_rules.specs.Fits.{MaybeType, Bottom, Known, fits, all_fit}
 use Rattle.validation_rules.specs.Context.{Context}
 use Rattle.validation_rules.specs.Pops.{found_by_pop}
 use Rattle.validation_rules.specs.Rows.{guard, Operator}
-use Rattle.validate_stacks.specs.Attempts.{Stacked, may_frame}
-use Rattle.validation_rules.specs.Static.{Frame, State, state_with, stack_with, operands_found, opened_frame, locals_set}
-use Rattle.validate_stacks.specs.AtOnce.{frames_dropped, body_dropped, body_with_frame_over, state_given, body_given, pushed_list, MeetsAtOnce}
-use Rattle.validate_stacks.specs.Flat.{state_from_heights, state_with_frame, stacked_of, HasShape, IsSound, undone_pending}
-use Rattle.validate_stacks.specs.Pops.{FitsAtOnce, may_pop, body_popped_each, body_pushed_each, has_operands_fitting, operands_found_in, IsKept}
+use Rattle.validate_stacks.specs.Attempts.{Stacked}
+use Rattle.validation_rules.specs.Static.{Frame, stack_with, operands_found, opened_frame, locals_set}
+use Rattle.validate_stacks.specs.AtOnce.{frames_dropped, body_dropped, body_with_frame_over, body_given}
+use Rattle.validate_stacks.specs.AtOnce.{pushed_list, MeetsAtOnce}
+use Rattle.validate_stacks.specs.Pops.{FitsAtOnce, may_pop, body_popped_each, body_pushed_each}
+use Rattle.validate_stacks.specs.Pops.{has_operands_fitting, operands_found_in, IsKept}
 use Rattle.validate_stacks.specs.State.{BodyState, body_context, body_with_frames, IsValidBody}
-use Rattle.validate_stacks.specs.Steps.{head_of, found_in_body, found_after_pops_in_body, found_after_pops_in_frames, innermost_operands, body_without_first, body_popped, body_pushed, body_unreachable, body_without_frame}
+use Rattle.validate_stacks.specs.Steps.{head_of, found_in_body, found_after_pops_in_body}
+use Rattle.validate_stacks.specs.Steps.{found_after_pops_in_frames, innermost_operands, body_without_first}
+use Rattle.validate_stacks.specs.Steps.{body_popped, body_pushed, body_unreachable, body_without_frame}
 use Rattle.validate_stacks.specs.Visits.{Meets}
 use Rattle.validation_rules.proofs.Steps.{some_injective}
-use Rattle.validate_stacks.proofs.Cuts.{state_of, own-cut, HasShape-more, above_height}
 use Rattle.validate_stacks.proofs.MatchedOperands.{drop_next}
-use Rattle.validate_stacks.proofs.Undone.{new_flat}
 use Rattle.validate_stacks.proofs.Whole.{popped_none, popped_next, popped_whole, pushed_whole}
 use Rattle.validate_stacks.proofs.Validity.{popped_valid, popped_kept, pushed_valid, kept_on}
-
--- ---- no attempt is pending
-
-pub no_log : (t : Transaction) → is_some (log_of t) ≡ false → log_of t ≡ None
-no_log (Active log) h = cc
-no_log (Inactive a) h = refl
-
-pub quiet_push : (t : Transaction) → log_of t ≡ None → with_push t ≡ t
-quiet_push (Active log) h = cc
-quiet_push (Inactive a) h = refl
-
-pub quiet_undone : (fs : List FlatFrame) (operands operands' : List MaybeType) (is : List ℕ) (t : Transaction) → log_of t ≡ None → undone_pending fs operands is t ≡ undone_pending fs operands' is t
-quiet_undone fs operands operands' is (Active log) h = cc
-quiet_undone fs operands operands' is (Inactive a) h = refl
-
--- ---- an operand in the place of the top one
-
--- there is one
-pub own_there : (fs : List FlatFrame) (operands : List MaybeType) (is : List ℕ) → innermost_operands (state_from_heights fs operands is).frames ≢ [] → 0 < length operands
-own_there [] operands is own = absurd (own refl)
-own_there (g ∷ gs) [] is own = absurd (own (none (0 - g.height)))
-  where
-    nothing : List MaybeType
-    nothing = []
-
-    none : (n : ℕ) → take n nothing ≡ []
-    none zero = refl
-    none (suc n) = refl
-own_there (g ∷ gs) (x ∷ operands) is own = omega arith
-
-pub sound_replaced : (fr : ℕ) (fs : List FlatFrame) (or or' : ℕ) (y : MaybeType) (operands : List MaybeType) (ir : ℕ) (set_at_entry : List Bool) (is : List ℕ) (t : Transaction) (ls : List ValType) → log_of t ≡ None → 0 < length operands → IsSound fr fs or operands ir set_at_entry is t ls → IsSound fr fs or' (y ∷ drop 1 operands) ir set_at_entry is t ls
-sound_replaced fr fs or or' y operands ir set_at_entry is (Active log) ls quiet some w = cc
-sound_replaced fr fs or or' y [] ir set_at_entry is (Inactive a) ls quiet some w = absurd (omega (arith, some))
-sound_replaced fr fs or or' y (x ∷ operands) ir set_at_entry is (Inactive a) ls quiet some w = record { shape = w.shape; marks = w.marks; undo = tt }
-
-pub cut-replaced : (fs : List FlatFrame) (y : MaybeType) (operands : List MaybeType) (is : List ℕ) (s : Bool) (n : WasmFeatures) (ls : List ValType) (en : List Bool) (un : Option State) → innermost_operands (state_from_heights fs operands is).frames ≢ [] → state_of fs (y ∷ drop 1 operands) is s n ls en un ≡ body_pushed y (body_popped (state_of fs operands is s n ls en un))
-cut-replaced [] y operands is s n ls en un own = absurd (own refl)
-cut-replaced (g ∷ gs) y [] is s n ls en un own = absurd (omega (arith, own_there (g ∷ gs) [] is own))
-cut-replaced (g ∷ gs) y (x ∷ operands) is s n ls en un own = by (suc (length operands) - g.height) refl
-  where
-    by : (k : ℕ) → suc (length operands) - g.height ≡ k → state_of (g ∷ gs) (y ∷ operands) is s n ls en un ≡ body_pushed y (body_popped (state_of (g ∷ gs) (x ∷ operands) is s n ls en un))
-    by zero e = absurd (own (ap (λ j. take j (x ∷ operands)) e))
-    by (suc k) e = rw e refl
 
 -- ---- operands taken
 
@@ -90,17 +45,26 @@ dropped_next n v = by v.present.frames ∙ ap (λ k. body_dropped k v) plus
     plus : suc n ≡ n + 1
     plus = omega arith
 
-    one : (own : List MaybeType) (f : Frame) (fs : List Frame) → body_without_first own (body_with_frames (record f { operands = own } ∷ fs) v) ≡ body_with_frames (record f { operands = drop 1 own } ∷ fs) v
+    one :
+        (own : List MaybeType) (f : Frame) (fs : List Frame) →
+        body_without_first own (body_with_frames (record f { operands = own } ∷ fs) v)
+        ≡ body_with_frames (record f { operands = drop 1 own } ∷ fs) v
     one [] f fs = refl
     one (x ∷ own) f fs = refl
 
-    by : (fs : List Frame) → body_popped (body_dropped n (body_with_frames fs v)) ≡ body_dropped (suc n) (body_with_frames fs v)
+    by :
+        (fs : List Frame) →
+        body_popped (body_dropped n (body_with_frames fs v)) ≡ body_dropped (suc n) (body_with_frames fs v)
     by [] = refl
-    by (f ∷ fs) = one (drop n f.operands) f fs ∙ ap (λ own. body_with_frames (record f { operands = own } ∷ fs) v) (sym (drop_next n f.operands))
+    by (f ∷ fs) =
+        one (drop n f.operands) f fs
+        ∙ ap (λ own. body_with_frames (record f { operands = own } ∷ fs) v) (sym (drop_next n f.operands))
 
 -- ---- what fits at once
 
-pub fits_by : (md : ModuleContext) → IsLawful md → (v : BodyState) (t : MaybeType) (w : ValType) → Valid md w → FitsAtOnce t (Some w) → may_pop (body_context md v) (Some t) (Some w) ≡ true
+pub fits_by :
+    (md : ModuleContext) → IsLawful md → (v : BodyState) (t : MaybeType) (w : ValType) → Valid md w →
+    FitsAtOnce t (Some w) → may_pop (body_context md v) (Some t) (Some w) ≡ true
 fits_by md laws v t w valid h = by (h w refl)
   where
     by : (t ≡ Bottom) ⊎ (t ≡ Known w) → fits (body_context md v) t w ≡ true
@@ -108,8 +72,12 @@ fits_by md laws v t w valid h = by (h w refl)
     by (inr e) = ap (λ x. fits (body_context md v) x w) e ∙ laws.reflexive w valid
 
 -- an operand that is known to be of the expected type
-pub known_fits : (md : ModuleContext) → IsLawful md → (v : BodyState) (k : ℕ) (t : ValType) → Valid md t → found_after_pops_in_body k v ≡ Some (Known t) → may_pop (body_context md v) (found_after_pops_in_body k v) (Some t) ≡ true
-known_fits md laws v k t valid found = ap (λ f. may_pop (body_context md v) f (Some t)) found ∙ laws.reflexive t valid
+pub known_fits :
+    (md : ModuleContext) → IsLawful md → (v : BodyState) (k : ℕ) (t : ValType) → Valid md t →
+    found_after_pops_in_body k v ≡ Some (Known t) →
+    may_pop (body_context md v) (found_after_pops_in_body k v) (Some t) ≡ true
+known_fits md laws v k t valid found =
+    ap (λ f. may_pop (body_context md v) f (Some t)) found ∙ laws.reflexive t valid
 
 -- ---- all of a list taken
 
@@ -118,20 +86,32 @@ guard_open true o h = refl
 guard_open false o h = cc
 
 -- where all of it fits, pops leave what lies below
-pub popped_dropped : (md : ModuleContext) (expected : List ValType) (v : BodyState) → has_operands_fitting (body_context md v) expected v ≡ true → body_popped_each md (reverse expected) v ≡ Some (body_dropped (length expected) v)
+pub popped_dropped :
+    (md : ModuleContext) (expected : List ValType) (v : BodyState) →
+    has_operands_fitting (body_context md v) expected v ≡ true →
+    body_popped_each md (reverse expected) v ≡ Some (body_dropped (length expected) v)
 popped_dropped md expected v h = by v.present.frames refl
   where
     nothing : (ws : List ValType) → all_fit (body_context md v) [] ws ≡ true → ws ≡ []
     nothing [] e = refl
     nothing (w ∷ ws) e = cc
 
-    by : (fs : List Frame) → v.present.frames ≡ fs → body_popped_each md (reverse expected) v ≡ Some (body_dropped (length expected) v)
+    by :
+        (fs : List Frame) → v.present.frames ≡ fs →
+        body_popped_each md (reverse expected) v ≡ Some (body_dropped (length expected) v)
     by [] e =
-        let none : expected ≡ [] = nothing expected (sym (ap (λ gs. all_fit (body_context md v) (operands_found_in (length expected) gs) expected) e) ∙ h) in
-        ap (λ ws. body_popped_each md (reverse ws) v) none ∙ popped_none md v ∙ ap Some (sym (dropped_none v)) ∙ ap (λ ws. Some (body_dropped (length ws) v)) (sym none)
+        let none : expected ≡ [] =
+        nothing expected
+        (sym (ap (λ gs. all_fit (body_context md v) (operands_found_in (length expected) gs) expected) e)
+        ∙ h) in
+        ap (λ ws. body_popped_each md (reverse ws) v) none
+        ∙ popped_none md v
+        ∙ ap Some (sym (dropped_none v))
+        ∙ ap (λ ws. Some (body_dropped (length ws) v)) (sym none)
     by (f ∷ fs) e =
         popped_whole md v f fs expected e
-        ∙ guard_open (all_fit (body_context md v) (operands_found (length expected) f) expected) _ (sym (ap (λ gs. all_fit (body_context md v) (operands_found_in (length expected) gs) expected) e) ∙ h)
+        ∙ guard_open (all_fit (body_context md v) (operands_found (length expected) f) expected) _
+        (sym (ap (λ gs. all_fit (body_context md v) (operands_found_in (length expected) gs) expected) e) ∙ h)
         ∙ ap (λ gs. Some (body_with_frames gs v)) (sym (ap (frames_dropped (length expected)) e))
 
 -- what is found below one other is found after it was popped
@@ -141,7 +121,10 @@ found_below v = by v.present.frames
     with : List Frame → BodyState
     with fs = record v { present = record { frames = fs; left = v.present.left } }
 
-    in_frame : (own : List MaybeType) (f : Frame) (fs : List Frame) → found_after_pops_in_body 1 (with (record f { operands = own } ∷ fs)) ≡ found_in_body (body_popped (with (record f { operands = own } ∷ fs)))
+    in_frame :
+        (own : List MaybeType) (f : Frame) (fs : List Frame) →
+        found_after_pops_in_body 1 (with (record f { operands = own } ∷ fs))
+        ≡ found_in_body (body_popped (with (record f { operands = own } ∷ fs)))
     in_frame [] f fs = refl
     in_frame (x ∷ own) f fs = refl
 
@@ -150,17 +133,30 @@ found_below v = by v.present.frames
     by (f ∷ fs) = in_frame f.operands f fs
 
 -- a known operand that isn't taken is one that is pushed
-pub known_stays : (k : ℕ) (t : ValType) (v : BodyState) → k < length (innermost_operands v.present.frames) → found_after_pops_in_body k v ≡ Some (Known t) → body_dropped k v ≡ body_pushed (Known t) (body_dropped (k + 1) v)
+pub known_stays :
+    (k : ℕ) (t : ValType) (v : BodyState) → k < length (innermost_operands v.present.frames) →
+    found_after_pops_in_body k v ≡ Some (Known t) →
+    body_dropped k v ≡ body_pushed (Known t) (body_dropped (k + 1) v)
 known_stays k t v own found = by v.present.frames own found
   where
-    top : (left : List MaybeType) (f : Frame) (fs : List Frame) → 0 < length left → found_by_pop f.dead left ≡ Some (Known t) → body_with_frames (record f { operands = left } ∷ fs) v ≡ body_pushed (Known t) (body_with_frames (record f { operands = drop 1 left } ∷ fs) v)
+    top :
+        (left : List MaybeType) (f : Frame) (fs : List Frame) → 0 < length left →
+        found_by_pop f.dead left ≡ Some (Known t) →
+        body_with_frames (record f { operands = left } ∷ fs) v
+        ≡ body_pushed (Known t) (body_with_frames (record f { operands = drop 1 left } ∷ fs) v)
     top [] f fs some e = absurd (omega (arith, some))
-    top (x ∷ left) f fs some e = ap (λ y. body_with_frames (record f { operands = y ∷ left } ∷ fs) v) (some_injective x (Known t) e)
+    top (x ∷ left) f fs some e =
+        ap (λ y. body_with_frames (record f { operands = y ∷ left } ∷ fs) v) (some_injective x (Known t) e)
 
-    by : (fs : List Frame) → k < length (innermost_operands fs) → found_after_pops_in_frames k fs ≡ Some (Known t) → body_dropped k (body_with_frames fs v) ≡ body_pushed (Known t) (body_dropped (k + 1) (body_with_frames fs v))
+    by :
+        (fs : List Frame) → k < length (innermost_operands fs) →
+        found_after_pops_in_frames k fs ≡ Some (Known t) →
+        body_dropped k (body_with_frames fs v)
+        ≡ body_pushed (Known t) (body_dropped (k + 1) (body_with_frames fs v))
     by [] some e = absurd (omega (arith, some))
     by (f ∷ fs) some e =
-        let next : drop 1 (drop k f.operands) ≡ drop (k + 1) f.operands = sym (drop_next k f.operands) ∙ ap (λ j. drop j f.operands) plus in
+        let next : drop 1 (drop k f.operands) ≡ drop (k + 1) f.operands =
+        sym (drop_next k f.operands) ∙ ap (λ j. drop j f.operands) plus in
         top (drop k f.operands) f fs (omega (arith, some, length-drop k f.operands)) e
         ∙ ap (λ own. body_pushed (Known t) (body_with_frames (record f { operands = own } ∷ fs) v)) next
       where
@@ -168,22 +164,34 @@ known_stays k t v own found = by v.present.frames own found
         plus = omega arith
 
 -- those that are looked at from the top down, and are known
-pub known_starts : (expected : List ValType) (v : BodyState) → body_pushed_each (drop (length expected) expected) (body_dropped (length expected - length expected) v) ≡ v
+pub known_starts :
+    (expected : List ValType) (v : BodyState) →
+    body_pushed_each (drop (length expected) expected) (body_dropped (length expected - length expected) v)
+    ≡ v
 known_starts expected v =
     let none : length expected - length expected ≡ 0 = omega arith in
     rw (none, drop_all (length expected) expected (omega arith)) (dropped_none v)
 
-pub known_goes_on : (expected : List ValType) (v : BodyState) (n : ℕ) (d : ValType) → 0 < n → n - 1 < length expected → length expected ≤ length (innermost_operands v.present.frames) → found_after_pops_in_body (length expected - 1 - (n - 1)) v ≡ Some (Known (get_or expected (n - 1) d)) → body_pushed_each (drop n expected) (body_dropped (length expected - n) v) ≡ v → body_pushed_each (drop (n - 1) expected) (body_dropped (length expected - (n - 1)) v) ≡ v
+pub known_goes_on :
+    (expected : List ValType) (v : BodyState) (n : ℕ) (d : ValType) → 0 < n → n - 1 < length expected →
+    length expected ≤ length (innermost_operands v.present.frames) →
+    found_after_pops_in_body (length expected - 1 - (n - 1)) v ≡ Some (Known (get_or expected (n - 1) d)) →
+    body_pushed_each (drop n expected) (body_dropped (length expected - n) v) ≡ v →
+    body_pushed_each (drop (n - 1) expected) (body_dropped (length expected - (n - 1)) v) ≡ v
 known_goes_on expected v n d some here own found before =
     let k : ℕ = length expected - n in
     let t : ValType = get_or expected (n - 1) d in
     let depth : length expected - 1 - (n - 1) ≡ k = omega (arith, some, here) in
     let more : length expected - (n - 1) ≡ k + 1 = omega (arith, some, here) in
     let back : n - 1 + 1 ≡ n = omega (arith, some) in
-    at_drop_more (λ ts. body_pushed_each ts (body_dropped (length expected - (n - 1)) v)) expected (n - 1) d here
+    at_drop_more (λ ts. body_pushed_each ts (body_dropped (length expected - (n - 1)) v)) expected (n - 1) d
+    here
     ∙ ap (λ j. body_pushed_each (t ∷ drop (n - 1 + 1) expected) (body_dropped j v)) more
     ∙ ap (λ j. body_pushed_each (t ∷ drop j expected) (body_dropped (k + 1) v)) back
-    ∙ ap (body_pushed_each (drop n expected)) (sym (known_stays k t v (omega (arith, some, here, own)) (sym (ap (λ j. found_after_pops_in_body j v) depth) ∙ found)))
+    ∙ ap (body_pushed_each (drop n expected))
+    (sym
+    (known_stays k t v (omega (arith, some, here, own))
+    (sym (ap (λ j. found_after_pops_in_body j v) depth) ∙ found)))
     ∙ before
 
 -- the frames stay open
@@ -195,28 +203,43 @@ dropped_open n v o = by v.present.frames o
     by (f ∷ fs) h = λ e. cc
 
 -- no more than there are
-pub dropped_within : (n k : ℕ) (v : BodyState) → k ≡ min n (length (innermost_operands v.present.frames)) → body_dropped n v ≡ body_dropped k v
+pub dropped_within :
+    (n k : ℕ) (v : BodyState) → k ≡ min n (length (innermost_operands v.present.frames)) →
+    body_dropped n v ≡ body_dropped k v
 dropped_within n k v h = by v.present.frames ∙ ap (λ j. body_dropped j v) (sym h)
   where
-    by : (fs : List Frame) → body_dropped n (body_with_frames fs v) ≡ body_dropped (min n (length (innermost_operands fs))) (body_with_frames fs v)
+    by :
+        (fs : List Frame) →
+        body_dropped n (body_with_frames fs v)
+        ≡ body_dropped (min n (length (innermost_operands fs))) (body_with_frames fs v)
     by [] = refl
-    by (f ∷ fs) = ap (λ own. body_with_frames (record f { operands = own } ∷ fs) v) (sym (drop_min n f.operands))
+    by (f ∷ fs) =
+        ap (λ own. body_with_frames (record f { operands = own } ∷ fs) v) (sym (drop_min n f.operands))
 
 -- some are left
-pub some_left : (k : ℕ) (v : BodyState) → k < length (innermost_operands v.present.frames) → innermost_operands (body_dropped k v).present.frames ≢ []
+pub some_left :
+    (k : ℕ) (v : BodyState) → k < length (innermost_operands v.present.frames) →
+    innermost_operands (body_dropped k v).present.frames ≢ []
 some_left k v h = by v.present.frames h
   where
-    by : (fs : List Frame) → k < length (innermost_operands fs) → innermost_operands (frames_dropped k fs) ≢ []
+    by :
+        (fs : List Frame) → k < length (innermost_operands fs) → innermost_operands (frames_dropped k fs) ≢ []
     by [] h = absurd (omega (arith, h))
     by (f ∷ fs) h = λ e. omega (arith, h, length-drop k f.operands, ap length e)
 
 -- ---- the exchange
 
-module _ (md : ModuleContext) (expected : List ValType) (v : BodyState) (fit : has_operands_fitting (body_context md v) expected v ≡ true) (k : ℕ) (least : k ≡ min (length expected) (length (innermost_operands v.present.frames))) where
+module _
+    (md : ModuleContext) (expected : List ValType) (v : BodyState)
+    (fit : has_operands_fitting (body_context md v) expected v ≡ true) (k : ℕ)
+    (least : k ≡ min (length expected) (length (innermost_operands v.present.frames))) where
   popped : body_popped_each md (reverse expected) v ≡ Some (body_dropped k v)
   popped = popped_dropped md expected v fit ∙ ap Some (dropped_within (length expected) k v least)
 
-  pub exchanged : (pushed : Option ValType) (w : BodyState) → w ≡ body_pushed_each (pushed_list pushed) (body_dropped k v) → option_map (body_pushed_each (pushed_list pushed)) (body_popped_each md (reverse expected) v) ≡ Some w
+  pub exchanged :
+      (pushed : Option ValType) (w : BodyState) →
+      w ≡ body_pushed_each (pushed_list pushed) (body_dropped k v) →
+      option_map (body_pushed_each (pushed_list pushed)) (body_popped_each md (reverse expected) v) ≡ Some w
   exchanged pushed w e = ap (option_map (body_pushed_each (pushed_list pushed))) popped ∙ ap Some (sym e)
 
 -- ---- what an exchange keeps
@@ -226,25 +249,38 @@ guard_some true o u h = h
 guard_some false o u h = absurd cc
 
 -- what a value was made of
-pub mapped_some : {A B : Type 0} (f : A → B) (o : Option A) (b : B) → option_map f o ≡ Some b → (a : A) × (o ≡ Some a) × (f a ≡ b)
+pub mapped_some :
+    {A B : Type 0} (f : A → B) (o : Option A) (b : B) → option_map f o ≡ Some b → (a : A)
+    × (o ≡ Some a) × (f a ≡ b)
 mapped_some f (Some a) b h = (a, refl, cc)
 mapped_some f None b h = absurd cc
 
 module _ (md : ModuleContext) where
-  pub popped_each_kept : (ws : List ValType) (v u : BodyState) → body_popped_each md ws v ≡ Some u → IsKept v u × (IsValidBody md v → IsValidBody md u)
-  popped_each_kept [] v u h = let e : v ≡ u = same (sym (popped_none md v) ∙ h) in (subst (IsKept v) e refl, subst (IsValidBody md) e)
+  pub popped_each_kept :
+      (ws : List ValType) (v u : BodyState) → body_popped_each md ws v ≡ Some u →
+      IsKept v u × (IsValidBody md v → IsValidBody md u)
+  popped_each_kept [] v u h =
+      let e : v ≡ u = same (sym (popped_none md v) ∙ h) in (subst (IsKept v) e refl, subst (IsValidBody md) e)
     where
       same : Some v ≡ Some u → v ≡ u
       same q = cc
   popped_each_kept (w ∷ ws) v u h =
-      let rest = popped_each_kept ws (body_popped v) u (guard_some (may_pop (body_context md v) (found_in_body v) (Some w)) (body_popped_each md ws (body_popped v)) u (sym (popped_next md w ws v) ∙ h)) in
+      let rest =
+      popped_each_kept ws (body_popped v) u
+      (guard_some (may_pop (body_context md v) (found_in_body v) (Some w))
+      (body_popped_each md ws (body_popped v)) u (sym (popped_next md w ws v) ∙ h)) in
       (kept_on v (body_popped v) u (popped_kept v) rest.0, λ k. rest.1 (popped_valid md v k))
 
-  pub pushed_each_kept : (ts : List ValType) (v : BodyState) → IsKept v (body_pushed_each ts v) × (AllByRecursion (Valid md) ts → IsValidBody md v → IsValidBody md (body_pushed_each ts v))
+  pub pushed_each_kept :
+      (ts : List ValType) (v : BodyState) →
+      IsKept v (body_pushed_each ts v)
+      × (AllByRecursion (Valid md) ts → IsValidBody md v → IsValidBody md (body_pushed_each ts v))
   pushed_each_kept [] v = (refl, λ a k. k)
   pushed_each_kept (t ∷ ts) v =
-      let rest = pushed_each_kept ts (body_pushed (Known t) v) in
-      (kept_on v (body_pushed (Known t) v) (body_pushed_each ts (body_pushed (Known t) v)) refl rest.0, λ a k. rest.1 a.1 (pushed_valid md (Known t) v a.0 k))
+      let rest = pushed_each_kept ts (body_pushed (Known t) v) in (
+        kept_on v (body_pushed (Known t) v) (body_pushed_each ts (body_pushed (Known t) v)) refl rest.0,
+        λ a k. rest.1 a.1 (pushed_valid md (Known t) v a.0 k),
+      )
 
   -- what was popped, and that nothing but the static state changed, and the types are still valid
   pub record Exchanged (ws ts : List ValType) (v w : BodyState) : Type 0 where
@@ -254,7 +290,9 @@ module _ (md : ModuleContext) where
     pub kept : IsKept v w
     pub valid : AllByRecursion (Valid md) ts → IsValidBody md v → IsValidBody md w
 
-  pub exchange_parts : (ws ts : List ValType) (v w : BodyState) → option_map (body_pushed_each ts) (body_popped_each md ws v) ≡ Some w → Exchanged ws ts v w
+  pub exchange_parts :
+      (ws ts : List ValType) (v w : BodyState) →
+      option_map (body_pushed_each ts) (body_popped_each md ws v) ≡ Some w → Exchanged ws ts v w
   exchange_parts ws ts v w h =
       let parts = mapped_some (body_pushed_each ts) (body_popped_each md ws v) w h in
       let u = parts.0 in
@@ -269,12 +307,16 @@ module _ (md : ModuleContext) where
       }
 
 -- it is done
-pub done_at_once : (md : ModuleContext) (op : Context → Operator) (v w : Stacked) (b : Bool) → MeetsAtOnce md op v b w → b ≡ true → (offset : ℕ) → Meets md op offset v.body (Ok tt) w.body
+pub done_at_once :
+    (md : ModuleContext) (op : Context → Operator) (v w : Stacked) (b : Bool) → MeetsAtOnce md op v b w →
+    b ≡ true → (offset : ℕ) → Meets md op offset v.body (Ok tt) w.body
 unfolding MeetsAtOnce
 done_at_once md op v w true m h offset = m offset
 done_at_once md op v w false m h offset = cc
 
-pub same_at_once : (md : ModuleContext) (op : Context → Operator) (v w : Stacked) (b : Bool) → MeetsAtOnce md op v b w → b ≡ false → w ≡ v
+pub same_at_once :
+    (md : ModuleContext) (op : Context → Operator) (v w : Stacked) (b : Bool) → MeetsAtOnce md op v b w →
+    b ≡ false → w ≡ v
 unfolding MeetsAtOnce
 same_at_once md op v w true m h = cc
 same_at_once md op v w false m h = m
@@ -283,7 +325,10 @@ same_at_once md op v w false m h = m
 popped_set : (v : BodyState) → locals_set (body_popped v).present.frames ≡ locals_set v.present.frames
 popped_set v = by v.present.frames
   where
-    in_frame : (own : List MaybeType) (f : Frame) (fs : List Frame) → locals_set (body_popped (body_with_frames (record f { operands = own } ∷ fs) v)).present.frames ≡ locals_set (f ∷ fs)
+    in_frame :
+        (own : List MaybeType) (f : Frame) (fs : List Frame) →
+        locals_set (body_popped (body_with_frames (record f { operands = own } ∷ fs) v)).present.frames
+        ≡ locals_set (f ∷ fs)
     in_frame [] f fs = refl
     in_frame (x ∷ own) f fs = refl
 
@@ -291,13 +336,18 @@ popped_set v = by v.present.frames
     by [] = refl
     by (f ∷ fs) = in_frame f.operands f fs
 
-pub popped_each_set : (md : ModuleContext) (ws : List ValType) (v u : BodyState) → body_popped_each md ws v ≡ Some u → locals_set u.present.frames ≡ locals_set v.present.frames
-popped_each_set md [] v u h = sym (ap (λ (x : BodyState). locals_set x.present.frames) (same (sym (popped_none md v) ∙ h)))
+pub popped_each_set :
+    (md : ModuleContext) (ws : List ValType) (v u : BodyState) → body_popped_each md ws v ≡ Some u →
+    locals_set u.present.frames ≡ locals_set v.present.frames
+popped_each_set md [] v u h =
+    sym (ap (λ (x : BodyState). locals_set x.present.frames) (same (sym (popped_none md v) ∙ h)))
   where
     same : Some v ≡ Some u → v ≡ u
     same q = cc
 popped_each_set md (w ∷ ws) v u h =
-    popped_each_set md ws (body_popped v) u (guard_some (may_pop (body_context md v) (found_in_body v) (Some w)) (body_popped_each md ws (body_popped v)) u (sym (popped_next md w ws v) ∙ h))
+    popped_each_set md ws (body_popped v) u
+    (guard_some (may_pop (body_context md v) (found_in_body v) (Some w))
+    (body_popped_each md ws (body_popped v)) u (sym (popped_next md w ws v) ∙ h))
     ∙ popped_set v
 
 -- ---- the live part ended, and a frame closed
@@ -305,25 +355,20 @@ popped_each_set md (w ∷ ws) v u h =
 pub ended_dropped : (n : ℕ) (v : BodyState) → body_unreachable (body_dropped n v) ≡ body_unreachable v
 ended_dropped n v = by v.present.frames
   where
-    by : (fs : List Frame) → body_unreachable (body_dropped n (body_with_frames fs v)) ≡ body_unreachable (body_with_frames fs v)
+    by :
+        (fs : List Frame) →
+        body_unreachable (body_dropped n (body_with_frames fs v)) ≡ body_unreachable (body_with_frames fs v)
     by [] = refl
     by (f ∷ fs) = refl
 
 -- where all of it fits, what is under it goes too
-pub ended_whole : (md : ModuleContext) (expected : List ValType) (v w : BodyState) → has_operands_fitting (body_context md v) expected v ≡ true → w ≡ body_unreachable v → option_map body_unreachable (body_popped_each md (reverse expected) v) ≡ Some w
-ended_whole md expected v w fit e = ap (option_map body_unreachable) (popped_dropped md expected v fit) ∙ ap Some (ended_dropped (length expected) v ∙ sym e)
-
-nothing_left : (n : ℕ) (own : List MaybeType) → length own ≤ n → drop n own ≡ []
-nothing_left n [] h = drop_nothing n
-  where
-    nothing : List MaybeType
-    nothing = []
-
-    drop_nothing : (k : ℕ) → drop k nothing ≡ []
-    drop_nothing zero = refl
-    drop_nothing (suc k) = refl
-nothing_left zero (x ∷ own) h = absurd (omega (arith, h))
-nothing_left (suc n) (x ∷ own) h = nothing_left n own (omega (arith, h))
+pub ended_whole :
+    (md : ModuleContext) (expected : List ValType) (v w : BodyState) →
+    has_operands_fitting (body_context md v) expected v ≡ true → w ≡ body_unreachable v →
+    option_map body_unreachable (body_popped_each md (reverse expected) v) ≡ Some w
+ended_whole md expected v w fit e =
+    ap (option_map body_unreachable) (popped_dropped md expected v fit)
+    ∙ ap Some (ended_dropped (length expected) v ∙ sym e)
 
 -- one that was made, and one that wasn't
 pub was_made : {P : Type 0} (Q : Type 0) (b : Bool) → b ≡ true → MatchBool b P Q → P
@@ -334,122 +379,33 @@ pub was_not_made : {Q : Type 0} (P : Type 0) (b : Bool) → b ≡ false → Matc
 was_not_made P true h m = cc
 was_not_made P false h m = m
 
--- ---- a frame opened where nothing is recorded
-
-pub quiet_opened : (t : Transaction) → log_of t ≡ None → with_opened t ≡ t
-quiet_opened (Active log) h = cc
-quiet_opened (Inactive a) h = refl
-
-pub quiet_frame : (fs : List FlatFrame) (operands : List MaybeType) (is : List ℕ) (t : Transaction) (s : Bool) (n : WasmFeatures) (ls : List ValType) (en : List Bool) → log_of t ≡ None → may_frame (stacked_of fs operands is t s n ls en) ≡ true
-quiet_frame fs operands is (Active log) s n ls en h = cc
-quiet_frame fs operands is (Inactive a) s n ls en h = refl
-
--- ---- own operands given to the next outer frame
-
--- the frames below, at once and after the own operands of the innermost one
-pub cut-pushed : (f : FlatFrame) (fs : List FlatFrame) (operands : List MaybeType) (is : List ℕ) (m : ℕ) → HasShape (f ∷ fs) (length operands) m → state_from_heights fs operands (take f.init_height is) ≡ state_given (state_from_heights (f ∷ fs) operands is).frames (state_from_heights (f ∷ fs) operands is).left
-cut-pushed f [] operands is m h = ap (λ l. state_with l []) (sym (take-append-drop (length operands - f.height) operands))
-cut-pushed f (g ∷ gs) operands is m h =
-    let k = length operands - f.height in
-    let below : length (drop k operands) ≡ f.height = omega (arith, length-drop k operands, h.0) in
-    let more : length operands - g.height ≡ k + (length (drop k operands) - g.height) = omega (arith, below, h.0, h.2.0) in
-    rw more (rw (take-add k (length (drop k operands) - g.height) operands, ← drop-drop (length (drop k operands) - g.height) k operands) refl)
-
-pub sound_given : (fr fr' : ℕ) (f : FlatFrame) (fs : List FlatFrame) (or : ℕ) (operands : List MaybeType) (ir ir' : ℕ) (en en' : List Bool) (is : List ℕ) (t : Transaction) (ls : List ValType) → log_of t ≡ None → en ≡ en' → IsSound fr (f ∷ fs) or operands ir en is t ls → IsSound fr' fs or operands ir' en' (take f.init_height is) t ls
-sound_given fr fr' f fs or operands ir ir' en en' is (Active log) ls quiet e w = cc
-sound_given fr fr' f fs or operands ir ir' en en' is (Inactive a) ls quiet e w = record {
-  shape = subst (HasShape fs (length operands)) (sym (length-take-le f.init_height is w.shape.1)) (HasShape-more fs f.height (length operands) f.init_height w.shape.0 w.shape.2);
-  marks = ap length (sym e) ∙ w.marks;
-  undo = tt;
-}
-
-pub idle_given : (f : FlatFrame) (fs : List FlatFrame) (operands : List MaybeType) (is : List ℕ) (t : Transaction) (s : Bool) (n : WasmFeatures) (ls : List ValType) (en : List Bool) → log_of t ≡ None → HasShape (f ∷ fs) (length operands) (length is) → state_of fs operands (take f.init_height is) s n ls en (undone_pending fs operands (take f.init_height is) t) ≡ body_given (state_of (f ∷ fs) operands is s n ls en (undone_pending (f ∷ fs) operands is t))
-idle_given f fs operands is (Active log) s n ls en quiet h = cc
-idle_given f fs operands is (Inactive a) s n ls en quiet h = ap (λ (p : State). record { present = p; shared = s; features = n; locals = ls; set_at_entry = en; undone = None }) (cut-pushed f fs operands is (length is) h)
-
--- ---- the top own operand taken
-
--- there is one
-pub taken_there : (fs : List FlatFrame) (operands : List MaybeType) (is : List ℕ) → innermost_operands (state_from_heights fs operands is).frames ≢ [] → (o : Option MaybeType) (rest : List MaybeType) → MatchOption o ((operands ≡ []) × (rest ≡ [])) (λ x. operands ≡ x ∷ rest) → (x : MaybeType) × (operands ≡ x ∷ rest)
-taken_there fs operands is own (Some x) rest m = (x, m)
-taken_there fs operands is own None rest m = let some = own_there fs operands is own in absurd (omega (arith, some, ap length m.0))
-
--- it lies above the height of its frame
-above_own : (g : FlatFrame) (gs : List FlatFrame) (x : MaybeType) (operands : List MaybeType) (is : List ℕ) → innermost_operands (state_from_heights (g ∷ gs) (x ∷ operands) is).frames ≢ [] → g.height ≤ length operands
-above_own g gs x operands is own = by (suc (length operands) - g.height) refl
-  where
-    by : (k : ℕ) → suc (length operands) - g.height ≡ k → g.height ≤ length operands
-    by zero e = absurd (own (ap (λ j. take j (x ∷ operands)) e))
-    by (suc k) e = omega (arith, e)
-
-pub sound_taken : (fr : ℕ) (fs : List FlatFrame) (or or' : ℕ) (x : MaybeType) (operands : List MaybeType) (ir : ℕ) (en : List Bool) (is : List ℕ) (t : Transaction) (ls : List ValType) → log_of t ≡ None → innermost_operands (state_from_heights fs (x ∷ operands) is).frames ≢ [] → IsSound fr fs or (x ∷ operands) ir en is t ls → IsSound fr fs or' operands ir en is t ls
-sound_taken fr fs or or' x operands ir en is (Active log) ls quiet own w = cc
-sound_taken fr [] or or' x operands ir en is (Inactive a) ls quiet own w = absurd (own refl)
-sound_taken fr (g ∷ gs) or or' x operands ir en is (Inactive a) ls quiet own w = record { shape = (above_own g gs x operands is own, w.shape.1, w.shape.2); marks = w.marks; undo = tt }
-
-pub cut-popped : (fs : List FlatFrame) (x : MaybeType) (operands : List MaybeType) (is : List ℕ) (t : Transaction) (s : Bool) (n : WasmFeatures) (ls : List ValType) (en : List Bool) → log_of t ≡ None → innermost_operands (state_from_heights fs (x ∷ operands) is).frames ≢ [] → state_of fs operands is s n ls en (undone_pending fs operands is t) ≡ body_popped (state_of fs (x ∷ operands) is s n ls en (undone_pending fs (x ∷ operands) is t))
-cut-popped fs x operands is (Active log) s n ls en quiet own = cc
-cut-popped [] x operands is (Inactive a) s n ls en quiet own = absurd (own refl)
-cut-popped (g ∷ gs) x operands is (Inactive a) s n ls en quiet own = (above_height (g ∷ gs) g x operands is s n ls en None refl (above_own g gs x operands is own)).1
-
--- ---- own operands taken
-
--- no more than all operands
-pub own_within : (fs : List FlatFrame) (operands : List MaybeType) (is : List ℕ) → length (innermost_operands (state_from_heights fs operands is).frames) ≤ length operands
-own_within [] operands is = omega arith
-own_within (g ∷ gs) operands is = omega (arith, own-cut (g ∷ gs) g operands is refl)
-
--- so many of them
-pub dropped_whole : (n fr : ℕ) (fs : List FlatFrame) (or : ℕ) (operands : List MaybeType) (ir : ℕ) (en : List Bool) (is : List ℕ) (t : Transaction) (s : Bool) (nf : WasmFeatures) (ls : List ValType) → log_of t ≡ None → n ≤ length (innermost_operands (state_from_heights fs operands is).frames) → IsSound fr fs or operands ir en is t ls → IsSound fr fs or (drop n operands) ir en is t ls × (state_of fs (drop n operands) is s nf ls en (undone_pending fs (drop n operands) is t) ≡ body_dropped n (state_of fs operands is s nf ls en (undone_pending fs operands is t)))
-dropped_whole zero fr fs or operands ir en is t s nf ls quiet own w = (w, sym (dropped_none _))
-dropped_whole (suc n) fr fs or operands ir en is t s nf ls quiet own w =
-    let before = dropped_whole n fr fs or operands ir en is t s nf ls quiet (omega (arith, own)) w in
-    by (drop n operands) refl before.0 before.1 (subst (λ (u : BodyState). innermost_operands u.present.frames ≢ []) (sym before.1) (some_left n v (omega (arith, own))))
-  where
-    at : List MaybeType → BodyState
-    at left = state_of fs left is s nf ls en (undone_pending fs left is t)
-
-    v : BodyState
-    v = at operands
-
-    plus : n + 1 ≡ suc n
-    plus = omega arith
-
-    by : (left : List MaybeType) → drop n operands ≡ left → IsSound fr fs or left ir en is t ls → at left ≡ body_dropped n v → innermost_operands (state_from_heights fs left is).frames ≢ [] → IsSound fr fs or (drop (suc n) operands) ir en is t ls × (at (drop (suc n) operands) ≡ body_dropped (suc n) v)
-    by [] e sound same there = absurd (omega (arith, own_there fs [] is there))
-    by (x ∷ rest) e sound same there =
-        let left_is : rest ≡ drop (suc n) operands = sym (drop_next n operands ∙ ap (drop 1) e) in
-        (subst (λ k. IsSound fr fs or k ir en is t ls) left_is (sound_taken fr fs or or x rest ir en is t ls quiet there sound), ap at (sym left_is) ∙ cut-popped fs x rest is t s nf ls en quiet there ∙ ap body_popped same ∙ dropped_next n v ∙ ap (λ k. body_dropped k v) plus)
-
--- where there is none in the list, no frame is open
-pub frameless : (fs : List FlatFrame) (operands : List MaybeType) (is : List ℕ) → slice_get fs 0 ≡ None → (state_from_heights fs operands is).frames ≡ []
-frameless [] operands is h = refl
-frameless (g ∷ gs) operands is h = cc
-
--- where no frame is open, nothing is given
-pub given_nothing : (fs : List FlatFrame) (operands : List MaybeType) (is : List ℕ) (s : Bool) (n : WasmFeatures) (ls : List ValType) (en : List Bool) (un : Option State) → slice_get fs 0 ≡ None → state_of fs operands is s n ls en un ≡ body_given (state_of fs operands is s n ls en un)
-given_nothing [] operands is s n ls en un h = refl
-given_nothing (g ∷ gs) operands is s n ls en un h = cc
-
 -- ---- a frame left
 
 -- one that has no own operand
-pub given_none : (v : BodyState) → length (innermost_operands v.present.frames) ≡ 0 → body_given v ≡ body_without_frame v
+pub given_none :
+    (v : BodyState) → length (innermost_operands v.present.frames) ≡ 0 → body_given v ≡ body_without_frame v
 given_none v h = by v.present.frames h
   where
-    in_frame : (own : List MaybeType) (f : Frame) (fs : List Frame) → length own ≡ 0 → body_given (body_with_frames (record f { operands = own } ∷ fs) v) ≡ body_with_frames fs v
+    in_frame :
+        (own : List MaybeType) (f : Frame) (fs : List Frame) → length own ≡ 0 →
+        body_given (body_with_frames (record f { operands = own } ∷ fs) v) ≡ body_with_frames fs v
     in_frame [] f [] e = refl
     in_frame [] f (g ∷ gs) e = refl
     in_frame (x ∷ own) f fs e = absurd (omega (arith, e))
 
-    by : (fs : List Frame) → length (innermost_operands fs) ≡ 0 → body_given (body_with_frames fs v) ≡ body_without_frame (body_with_frames fs v)
+    by :
+        (fs : List Frame) → length (innermost_operands fs) ≡ 0 →
+        body_given (body_with_frames fs v) ≡ body_without_frame (body_with_frames fs v)
     by [] e = refl
     by (f ∷ fs) e = in_frame f.operands f fs e
 
-pub without_valid : (md : ModuleContext) (v : BodyState) → IsValidBody md v → IsValidBody md (body_without_frame v)
+pub without_valid :
+    (md : ModuleContext) (v : BodyState) → IsValidBody md v → IsValidBody md (body_without_frame v)
 without_valid md v h = by v.present.frames h
   where
-    by : (fs : List Frame) → IsValidBody md (body_with_frames fs v) → IsValidBody md (body_without_frame (body_with_frames fs v))
+    by :
+        (fs : List Frame) → IsValidBody md (body_with_frames fs v) →
+        IsValidBody md (body_without_frame (body_with_frames fs v))
     by [] k = k
     by (f ∷ fs) k = record { locals_valid = k.locals_valid; frames = k.frames.1; left = k.left }
 
@@ -466,35 +422,22 @@ no_type (t ∷ u ∷ ts) h n = absurd (omega (arith, h))
 
 -- ---- own operands taken over by a frame
 
-over_cut : (n : ℕ) (k : FrameKind) (b : BlockType) (fs : List FlatFrame) (operands : List MaybeType) (is : List ℕ) → n ≤ length operands → state_from_heights (new_flat k b (length operands - n) (length is) ∷ fs) operands is ≡ state_with_frame (record { head = record { kind = k; block_type = b }; operands = take n operands; dead = false; first_set = [] }) (state_from_heights fs (drop n operands) is)
-over_cut n k b fs operands is h =
-    let e : length operands - (length operands - n) ≡ n = omega (arith, h) in
-    rw (e, drop_all (length is) is (omega arith), take_all (length is) is (omega arith)) refl
-
-pub own_taken : (n : ℕ) (fs : List FlatFrame) (operands : List MaybeType) (is : List ℕ) → n ≤ length (innermost_operands (state_from_heights fs operands is).frames) → take n operands ≡ take n (innermost_operands (state_from_heights fs operands is).frames)
-own_taken n [] operands is h = let none : n ≡ 0 = omega (arith, h) in rw none refl
-own_taken n (g ∷ gs) operands is h = sym (take-take n (length operands - g.height) operands (omega (arith, h, own-cut (g ∷ gs) g operands is refl)))
-
--- with the frame, over so many own operands of the innermost one
-pub taken_over : (n : ℕ) (k : FrameKind) (b : BlockType) (fr fr' : ℕ) (fs : List FlatFrame) (or : ℕ) (operands : List MaybeType) (ir : ℕ) (en : List Bool) (is : List ℕ) (t : Transaction) (s : Bool) (nf : WasmFeatures) (ls : List ValType) → log_of t ≡ None → n ≤ length (innermost_operands (state_from_heights fs operands is).frames) → IsSound fr fs or operands ir en is t ls → IsSound fr' (new_flat k b (length operands - n) (length is) ∷ fs) or operands ir en is t ls × (state_of (new_flat k b (length operands - n) (length is) ∷ fs) operands is s nf ls en (undone_pending (new_flat k b (length operands - n) (length is) ∷ fs) operands is t) ≡ body_with_frame_over n k b (state_of fs operands is s nf ls en (undone_pending fs operands is t)))
-taken_over n k b fr fr' fs or operands ir en is (Active log) s nf ls quiet own w = cc
-taken_over n k b fr fr' fs or operands ir en is (Inactive a) s nf ls quiet own w =
-    let within = own_within fs operands is in
-    let below = dropped_whole n fr fs or operands ir en is (Inactive a) s nf ls refl own w in
-    let left : length (drop n operands) ≡ length operands - n = length-drop n operands in (
-      record { shape = (omega arith, omega arith, subst (λ j. HasShape fs j (length is)) left below.0.shape); marks = w.marks; undo = tt },
-      ap (λ (p : State). record { present = p; shared = s; features = nf; locals = ls; set_at_entry = en; undone = None }) (over_cut n k b fs operands is (omega (arith, own, within)))
-          ∙ ap (λ own. on own (state_of fs (drop n operands) is s nf ls en None)) (own_taken n fs operands is own)
-          ∙ ap (on (take n (innermost_operands (state_from_heights fs operands is).frames))) below.1,
-    )
-  where
-    on : List MaybeType → BodyState → BodyState
-    on own u = body_with_frames (record { head = record { kind = k; block_type = b }; operands = own; dead = false; first_set = [] } ∷ u.present.frames) u
-
 -- those that are known to be of the parameters' types
-pub over_known : (ts : List ValType) (k : FrameKind) (b : BlockType) (v : BodyState) → length ts ≤ length (innermost_operands v.present.frames) → body_pushed_each ts (body_dropped (length ts) v) ≡ v → body_with_frame_over (length ts) k b v ≡ body_with_frames (opened_frame (head_of k b) ts ∷ (body_dropped (length ts) v).present.frames) (body_dropped (length ts) v)
-over_known ts k b v own known = ap (λ q. body_with_frames (record { head = head_of k b; operands = q; dead = false; first_set = [] } ∷ (body_dropped (length ts) v).present.frames) (body_dropped (length ts) v)) (by v.present.frames refl)
+pub over_known :
+    (ts : List ValType) (k : FrameKind) (b : BlockType) (v : BodyState) →
+    length ts ≤ length (innermost_operands v.present.frames) →
+    body_pushed_each ts (body_dropped (length ts) v) ≡ v →
+    body_with_frame_over (length ts) k b v
+    ≡ body_with_frames (opened_frame (head_of k b) ts ∷ (body_dropped (length ts) v).present.frames)
+    (body_dropped (length ts) v)
+over_known ts k b v own known = ap over (by v.present.frames refl)
   where
+    over : List MaybeType → BodyState
+    over q =
+        let opened : Frame = record { head = head_of k b; operands = q; dead = false; first_set = [] } in
+        let left = body_dropped (length ts) v in
+        body_with_frames (opened ∷ left.present.frames) left
+
     known_types : List MaybeType
     known_types = map Known ts
 
@@ -504,7 +447,9 @@ over_known ts k b v own known = ap (λ q. body_with_frames (record { head = head
     count : length top ≡ length ts
     count = length-reverse known_types ∙ length-map ts (λ (t : ValType). Known t)
 
-    by : (fs : List Frame) → v.present.frames ≡ fs → take (length ts) (innermost_operands v.present.frames) ≡ stack_with (map Known ts) []
+    by :
+        (fs : List Frame) → v.present.frames ≡ fs →
+        take (length ts) (innermost_operands v.present.frames) ≡ stack_with (map Known ts) []
     by [] e =
         let none : length ts ≡ 0 = omega (arith, own, ap (λ gs. length (innermost_operands gs)) e) in
         rw (length_none ts none) refl
@@ -513,8 +458,12 @@ over_known ts k b v own known = ap (λ q. body_with_frames (record { head = head
         length_none [] h = refl
         length_none (u ∷ us) h = absurd (omega (arith, h))
     by (f ∷ fs) e =
-        let pushed = pushed_whole ts (body_dropped (length ts) v) (record f { operands = drop (length ts) f.operands }) fs (ap (frames_dropped (length ts)) e) in
-        let whole : stack_with (map Known ts) (drop (length ts) f.operands) ≡ f.operands = ap (λ (u : BodyState). innermost_operands u.present.frames) (sym pushed ∙ known) ∙ ap innermost_operands e in
+        let pushed =
+        pushed_whole ts (body_dropped (length ts) v) (record f { operands = drop (length ts) f.operands })
+        fs (ap (frames_dropped (length ts)) e) in
+        let whole : stack_with (map Known ts) (drop (length ts) f.operands) ≡ f.operands =
+        ap (λ (u : BodyState). innermost_operands u.present.frames) (sym pushed ∙ known)
+        ∙ ap innermost_operands e in
         ap (λ gs. take (length ts) (innermost_operands gs)) e
         ∙ ap (take (length ts)) (sym whole)
         ∙ take-append-le (length ts) top (drop (length ts) f.operands) (omega (arith, count))

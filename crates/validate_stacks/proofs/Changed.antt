@@ -1,14 +1,18 @@
--- Operands and frames changed in one move, and recorded where an attempt is pending: what it comes back to stays.
-use Rattle.std.proofs.Common.{◌≡◌, ◌≢◌, ℕ, zero, suc, ◌+◌, ◌-◌, ◌<◌, ◌≤◌, List, [], ◌∷◌, ◌++◌, Bool, true, false, Option, Some, None, is_some, if◌then◌else◌, length, take, drop, map, reverse, replicate, refl, sym, ◌∙◌, ap, subst, arith, length-drop}
+-- Operands and frames changed in one move, and recorded where an attempt is pending: what it comes back to
+-- stays.
+use Rattle.std.proofs.Common.{◌≡◌, ◌≢◌, ℕ, zero, suc, ◌+◌, ◌-◌, ◌<◌, ◌≤◌, List, [], ◌∷◌, ◌++◌, Bool, true}
+use Rattle.std.proofs.Common.{false, Option, Some, None, is_some, if◌then◌else◌, length, take, drop}
+use Rattle.std.proofs.Common.{slice_get, map, reverse, replicate, refl, sym, ◌∙◌, ap, subst, arith}
+use Rattle.std.proofs.Common.{length-drop}
 use Rattle.std.proofs.lemmas.List.{drop_all, append_assoc, append-nil, map-append, reverse-append}
-use Rattle.validate_locals.specs.Inits.{Inits, is_local_set, AreFresh}
+use Rattle.validate_locals.specs.Inits.{is_local_set, AreFresh}
 use Rattle.validate_transaction.specs.declared.log.Closed.{Closed}
 use Rattle.validate_transaction.specs.declared.log.Entry.{Entry}
 use Rattle.validate_transaction.specs.declared.log.Transaction.{Transaction}
 use Rattle.validate_transaction.specs.declared.log.Transaction.TheVariants.{Active, Inactive}
 use Rattle.validate_transaction.specs.Log.{Log}
-use Rattle.validate_transaction.specs.Recorded.{with_push, with_pop, with_entry, frames_with_closed, frames_with_opened, unset_by}
-use Rattle.validate_types.specs.declared.features.WasmFeatures.{WasmFeatures}
+use Rattle.validate_transaction.specs.Recorded.{with_pop, with_entry, frames_with_closed, frames_with_opened}
+use Rattle.validate_transaction.specs.Recorded.{unset_by}
 use Rattle.validate_types.specs.declared.types.ValType.{ValType}
 use Rattle.validate_visit.specs.declared.frame.BlockType.{BlockType}
 use Rattle.validate_visit.specs.declared.frame.Frame.{Frame as FlatFrame}
@@ -16,38 +20,57 @@ use Rattle.validate_visit.specs.declared.frame.FrameKind.{FrameKind}
 use Rattle.validation_rules.specs.Fits.{MaybeType, Known}
 use Rattle.validation_rules.specs.Static.{Frame, State}
 use Rattle.validate_stacks.specs.AtOnce.{body_dropped}
-use Rattle.validate_stacks.specs.Attempts.{Stacked, phase_moved, may_frame, may_set, may_unset, innermost_first_set}
-use Rattle.validate_stacks.specs.Changes.{operands_given, operands_topped, frames_closed, order_closed, order_set, frames_opened, log_popped, log_with_closed, log_closed, log_opened, log_pushed, log_topped, body_closed, body_setting, body_opened, body_topped}
-use Rattle.validate_stacks.specs.Flat.{state_from_heights, stacked_of, IsSound, undone_pending, phase_of}
+use Rattle.validate_stacks.specs.Attempts.{phase_moved, may_frame, may_set, may_unset, innermost_first_set}
+use Rattle.validate_stacks.specs.declared.change.Change.{Change}
+use Rattle.validate_stacks.specs.Changes.{MayChange, body_changed, operands_given, operands_topped}
+use Rattle.validate_stacks.specs.Changes.{frames_closed, order_closed, order_set, frames_opened, log_popped}
+use Rattle.validate_stacks.specs.Changes.{log_with_closed, log_closed, log_opened, log_pushed, log_topped}
+use Rattle.validate_stacks.specs.Changes.{body_closed, body_setting, body_opened, body_topped}
+use Rattle.validate_stacks.specs.Flat.{FlatStacks, body_from, state_from_heights, stacked_of, IsSound}
+use Rattle.validate_stacks.specs.Flat.{phase_of}
 use Rattle.validate_stacks.specs.Pops.{IsKept, body_pushed_each}
 use Rattle.validate_stacks.specs.State.{BodyState, body_with_frames}
 use Rattle.validate_stacks.specs.Steps.{innermost_operands, body_pushed, body_popped}
-use Rattle.validate_stacks.proofs.AtOnce.{dropped_none, own_within}
-use Rattle.validate_stacks.proofs.Cuts.{state_of, cut-push, own-cut, above_height}
+use Rattle.validate_stacks.proofs.AtOnce.{dropped_none}
+use Rattle.validate_stacks.proofs.Idle.{own_within}
+use Rattle.validate_stacks.proofs.Cuts.{own_of, own-cut}
 use Rattle.validate_stacks.proofs.Marks.{shape_set, set_state}
 use Rattle.validate_stacks.proofs.Phases.{frame_after, set_after, unset_after}
-use Rattle.validate_stacks.proofs.Undone.{sound_push, undone_push, sound_pop, undone_pop, phase_pop, state_open, sound_open, state_close, sound_close, frames_close, undone_set, undo_set}
+use Rattle.validate_stacks.proofs.Undone.{pushed_on, body_push, sound_push, popped_off, body_pop, sound_pop}
+use Rattle.validate_stacks.proofs.Undone.{phase_pop, body_open, sound_open, body_close, sound_close}
+use Rattle.validate_stacks.proofs.Undone.{frames_close, undone_set, undo_set}
 
 -- ---- the log
 
 -- one more in front of those that are turned
-turned_next : (xs : List MaybeType) (x : MaybeType) (trace : List (Option MaybeType)) → map Some (reverse xs) ++ Some x ∷ trace ≡ map Some (reverse (x ∷ xs)) ++ trace
+turned_next :
+    (xs : List MaybeType) (x : MaybeType) (trace : List (Option MaybeType)) →
+    map Some (reverse xs) ++ Some x ∷ trace ≡ map Some (reverse (x ∷ xs)) ++ trace
 turned_next xs x trace =
-    sym (ap (λ ys. map Some ys ++ trace) (reverse-append (x ∷ []) xs) ∙ ap (λ ys. ys ++ trace) (map-append Some (reverse xs) (x ∷ [])) ∙ append_assoc (map Some (reverse xs)) (Some x ∷ []) trace)
+    sym
+    (ap (λ ys. map Some ys ++ trace) (reverse-append (x ∷ []) xs)
+    ∙ ap (λ ys. ys ++ trace) (map-append Some (reverse xs) (x ∷ []))
+    ∙ append_assoc (map Some (reverse xs)) (Some x ∷ []) trace)
 
-popped_active : (xs : List MaybeType) (log : Log) → log_popped xs (Active log) ≡ Active (record log { operands = map Some (reverse xs) ++ log.operands })
+popped_active :
+    (xs : List MaybeType) (log : Log) →
+    log_popped xs (Active log) ≡ Active (record log { operands = map Some (reverse xs) ++ log.operands })
 popped_active [] log = refl
 popped_active (x ∷ xs) log =
-    popped_active xs (record log { operands = Some x ∷ log.operands }) ∙ ap (λ trace. Active (record log { operands = trace })) (turned_next xs x log.operands)
+    popped_active xs (record log { operands = Some x ∷ log.operands })
+    ∙ ap (λ trace. Active (record log { operands = trace })) (turned_next xs x log.operands)
 
 one_within : {X : Type 0} (n : ℕ) (x : X) (xs : List X) → replicate n x ++ x ∷ xs ≡ x ∷ replicate n x ++ xs
 one_within zero x xs = refl
 one_within (suc n) x xs = ap (λ ys. x ∷ ys) (one_within n x xs)
 
-pushed_active : (gs : List ValType) (log : Log) → log_pushed gs (Active log) ≡ Active (record log { operands = replicate (length gs) None ++ log.operands })
+pushed_active :
+    (gs : List ValType) (log : Log) →
+    log_pushed gs (Active log) ≡ Active (record log { operands = replicate (length gs) None ++ log.operands })
 pushed_active [] log = refl
 pushed_active (g ∷ gs) log =
-    pushed_active gs (record log { operands = None ∷ log.operands }) ∙ ap (λ trace. Active (record log { operands = trace })) (one_within (length gs) None log.operands)
+    pushed_active gs (record log { operands = None ∷ log.operands })
+    ∙ ap (λ trace. Active (record log { operands = trace })) (one_within (length gs) None log.operands)
 
 popped_idle : (xs : List MaybeType) (a : _) → log_popped xs (Inactive a) ≡ Inactive a
 popped_idle [] a = refl
@@ -58,8 +81,19 @@ pushed_idle [] a = refl
 pushed_idle (g ∷ gs) a = pushed_idle gs a
 
 -- an entry is its steps, one after the other
-pub entry_steps : (e : Entry) (xs : List MaybeType) (gs : List ValType) (opens : Option (FrameKind × BlockType)) (top : Option MaybeType) → e.popped.now ≡ reverse xs → e.pushed ≡ length gs + (if is_some top then 1 else 0) → e.opened ≡ is_some opens → (t : Transaction) → with_entry e t ≡ log_topped top (log_pushed gs (log_opened opens (log_with_closed e.closed (log_popped xs t))))
-entry_steps e xs gs opens top p q o (Active log) = rw (p, o) (sym (ap (λ t. log_topped top (log_pushed gs (log_opened opens (log_with_closed e.closed t)))) (popped_active xs log) ∙ ap (log_topped top) (by e.closed opens) ∙ above top q))
+pub entry_steps :
+    (e : Entry) (xs : List MaybeType) (gs : List ValType) (opens : Option (FrameKind × BlockType))
+    (top : Option MaybeType) → e.popped.now ≡ reverse xs →
+    e.pushed ≡ length gs + (if is_some top then 1 else 0) → e.opened ≡ is_some opens → (t : Transaction) →
+    with_entry e t
+    ≡ log_topped top (log_pushed gs (log_opened opens (log_with_closed e.closed (log_popped xs t))))
+entry_steps e xs gs opens top p q o (Active log) =
+    rw (p, o)
+    (sym
+    (ap (λ t. log_topped top (log_pushed gs (log_opened opens (log_with_closed e.closed t))))
+    (popped_active xs log)
+    ∙ ap (log_topped top) (by e.closed opens)
+    ∙ above top q))
   where
     popped : List (Option MaybeType)
     popped = map Some (reverse xs) ++ log.operands
@@ -68,20 +102,50 @@ entry_steps e xs gs opens top p q o (Active log) = rw (p, o) (sym (ap (λ t. log
     frames = frames_with_opened (is_some opens) (frames_with_closed e.closed log.frames)
 
     pushed : ℕ → Transaction
-    pushed n = Active (record log { operands = replicate n None ++ popped; frames = frames; inits = log.inits ++ unset_by e.closed })
+    pushed n =
+        Active
+        (record log {
+          operands = replicate n None ++ popped;
+          frames = frames;
+          inits = log.inits ++ unset_by e.closed;
+        })
 
-    by : (c : Option Closed) (os : Option (FrameKind × BlockType)) → log_pushed gs (log_opened os (log_with_closed c (Active (record log { operands = popped })))) ≡ Active (record log { operands = replicate (length gs) None ++ popped; frames = frames_with_opened (is_some os) (frames_with_closed c log.frames); inits = log.inits ++ unset_by c })
-    by None None = pushed_active gs _ ∙ ap (λ is. Active (record log { operands = replicate (length gs) None ++ popped; inits = is })) (sym (append-nil log.inits))
-    by None (Some opened) = pushed_active gs _ ∙ ap (λ is. Active (record log { operands = replicate (length gs) None ++ popped; frames = None ∷ log.frames; inits = is })) (sym (append-nil log.inits))
+    by :
+        (c : Option Closed) (os : Option (FrameKind × BlockType)) →
+        log_pushed gs (log_opened os (log_with_closed c (Active (record log { operands = popped }))))
+        ≡ Active
+        (record log {
+          operands = replicate (length gs) None ++ popped;
+          frames = frames_with_opened (is_some os) (frames_with_closed c log.frames);
+          inits = log.inits ++ unset_by c;
+        })
+    by None None =
+        pushed_active gs _
+        ∙ ap (λ is. Active (record log { operands = replicate (length gs) None ++ popped; inits = is }))
+        (sym (append-nil log.inits))
+    by None (Some opened) =
+        let all : List (Option MaybeType) = replicate (length gs) None ++ popped in
+        pushed_active gs _
+        ∙ ap (λ is. Active (record log { operands = all; frames = None ∷ log.frames; inits = is }))
+        (sym (append-nil log.inits))
     by (Some c) None = pushed_active gs _
     by (Some c) (Some opened) = pushed_active gs _
 
-    above : (o : Option MaybeType) → e.pushed ≡ length gs + (if is_some o then 1 else 0) → log_topped o (pushed (length gs)) ≡ pushed e.pushed
+    above :
+        (o : Option MaybeType) → e.pushed ≡ length gs + (if is_some o then 1 else 0) →
+        log_topped o (pushed (length gs)) ≡ pushed e.pushed
     above None q = let same : length gs ≡ e.pushed = omega (arith, q) in ap pushed same
     above (Some x) q = let one : suc (length gs) ≡ e.pushed = omega (arith, q) in ap pushed one
-entry_steps e xs gs opens top p q o (Inactive a) = sym (ap (λ t. log_topped top (log_pushed gs (log_opened opens (log_with_closed e.closed t)))) (popped_idle xs a) ∙ ap (log_topped top) (by e.closed opens) ∙ above top)
+entry_steps e xs gs opens top p q o (Inactive a) =
+    sym
+    (ap (λ t. log_topped top (log_pushed gs (log_opened opens (log_with_closed e.closed t))))
+    (popped_idle xs a)
+    ∙ ap (log_topped top) (by e.closed opens)
+    ∙ above top)
   where
-    by : (c : Option Closed) (os : Option (FrameKind × BlockType)) → log_pushed gs (log_opened os (log_with_closed c (Inactive a))) ≡ Inactive a
+    by :
+        (c : Option Closed) (os : Option (FrameKind × BlockType)) →
+        log_pushed gs (log_opened os (log_with_closed c (Inactive a))) ≡ Inactive a
     by None None = pushed_idle gs a
     by None (Some opened) = pushed_idle gs a
     by (Some c) None = pushed_idle gs a
@@ -103,27 +167,40 @@ dropped_after n v = by v.present.frames
     none : (k : ℕ) → drop k nothing ≡ drop (suc k) nothing
     none k = drop_all k nothing (omega arith) ∙ sym (drop_all (suc k) nothing (omega arith))
 
-    in_frame : (own : List MaybeType) (f : Frame) (fs : List Frame) → body_dropped n (body_popped (body_with_frames (record f { operands = own } ∷ fs) v)) ≡ body_dropped (suc n) (body_with_frames (record f { operands = own } ∷ fs) v)
+    in_frame :
+        (own : List MaybeType) (f : Frame) (fs : List Frame) →
+        body_dropped n (body_popped (body_with_frames (record f { operands = own } ∷ fs) v))
+        ≡ body_dropped (suc n) (body_with_frames (record f { operands = own } ∷ fs) v)
     in_frame [] f fs = ap (λ own. body_with_frames (record f { operands = own } ∷ fs) v) (none n)
     in_frame (x ∷ own) f fs = refl
 
-    by : (fs : List Frame) → body_dropped n (body_popped (body_with_frames fs v)) ≡ body_dropped (suc n) (body_with_frames fs v)
+    by :
+        (fs : List Frame) →
+        body_dropped n (body_popped (body_with_frames fs v)) ≡ body_dropped (suc n) (body_with_frames fs v)
     by [] = refl
     by (f ∷ fs) = in_frame f.operands f fs
 
-phase_popped : (m : ℕ) (xs : List MaybeType) (t : Transaction) → phase_moved (phase_of m (log_popped xs t)) ≡ phase_moved (phase_of m t)
+phase_popped :
+    (m : ℕ) (xs : List MaybeType) (t : Transaction) →
+    phase_moved (phase_of m (log_popped xs t)) ≡ phase_moved (phase_of m t)
 phase_popped m [] t = refl
 phase_popped m (x ∷ xs) t = phase_popped m xs (with_pop x t) ∙ phase_pop m x t
 
 -- dropping operands sets and unsets nothing
-first_set_stays : (n : ℕ) (v : BodyState) → innermost_first_set (body_dropped n v).present.frames ≡ innermost_first_set v.present.frames
+first_set_stays :
+    (n : ℕ) (v : BodyState) →
+    innermost_first_set (body_dropped n v).present.frames ≡ innermost_first_set v.present.frames
 first_set_stays n v = by v.present.frames
   where
-    by : (fs : List Frame) → innermost_first_set (body_dropped n (body_with_frames fs v)).present.frames ≡ innermost_first_set fs
+    by :
+        (fs : List Frame) →
+        innermost_first_set (body_dropped n (body_with_frames fs v)).present.frames ≡ innermost_first_set fs
     by [] = refl
     by (f ∷ fs) = refl
 
-pub length_given : (gs : List ValType) (operands : List MaybeType) → length (operands_given gs operands) ≡ length gs + length operands
+pub length_given :
+    (gs : List ValType) (operands : List MaybeType) →
+    length (operands_given gs operands) ≡ length gs + length operands
 length_given [] operands = omega arith
 length_given (g ∷ gs) operands = omega (arith, length_given gs (Known g ∷ operands))
 
@@ -132,178 +209,287 @@ one_above None h = absurd (h refl)
 one_above (Some x) h = refl
 
 -- where a frame is open, a flat one is
-pub some_flat : (fs : List FlatFrame) (operands : List MaybeType) (is : List ℕ) → (state_from_heights fs operands is).frames ≢ [] → 0 < length fs
+pub some_flat :
+    (fs : List FlatFrame) (operands : List MaybeType) (is : List ℕ) →
+    (state_from_heights fs operands is).frames ≢ [] → 0 < length fs
 some_flat [] operands is h = absurd (h refl)
 some_flat (f ∷ fs) operands is h = omega arith
 
 -- where all own operands are taken, none is left
-pub bare_after : (fs : List FlatFrame) (operands : List MaybeType) (is : List ℕ) (n : ℕ) → length (innermost_operands (state_from_heights fs operands is).frames) ≡ n → innermost_operands (state_from_heights fs (drop n operands) is).frames ≡ []
+pub bare_after :
+    (fs : List FlatFrame) (operands : List MaybeType) (is : List ℕ) (n : ℕ) →
+    length (innermost_operands (state_from_heights fs operands is).frames) ≡ n →
+    innermost_operands (state_from_heights fs (drop n operands) is).frames ≡ []
 bare_after [] operands is n e = refl
 bare_after (f ∷ fs) operands is n e =
-    let none : length (drop n operands) - f.height ≡ 0 = omega (arith, length-drop n operands, own-cut (f ∷ fs) f operands is refl, e) in
+    let none : length (drop n operands) - f.height ≡ 0 =
+    omega (arith, length-drop n operands, own-cut (f ∷ fs) f operands is refl, e) in
     ap (λ k. take k (drop n operands)) none
 
-module _ (fr or ir : ℕ) (en : List Bool) (s : Bool) (nf : WasmFeatures) (ls : List ValType) where
-  -- sound, and what it stands for
-  abbrev Sound : List FlatFrame → List MaybeType → List ℕ → Transaction → Type 0
-  Sound fs operands is t = IsSound fr fs or operands ir en is t ls
+-- ---- each step, on the flat stacks
 
-  abbrev at : List FlatFrame → List MaybeType → List ℕ → Transaction → BodyState
-  at fs operands is t = state_of fs operands is s nf ls en (undone_pending fs operands is t)
+-- so many operands popped
+abbrev pub flat_dropped : ℕ → FlatStacks → FlatStacks
+flat_dropped n s =
+    record s { operands = drop n s.operands; transaction = log_popped (take n s.operands) s.transaction }
 
-  abbrev whole : List FlatFrame → List MaybeType → List ℕ → Transaction → Stacked
-  whole fs operands is t = stacked_of fs operands is t s nf ls en
+-- the innermost frame closed, if asked for
+abbrev pub flat_closed : Bool → FlatStacks → FlatStacks
+flat_closed b s =
+    record s {
+      frames = frames_closed b s.frames;
+      order = order_closed b s.frames s.order;
+      transaction = log_closed b s.frames s.order s.transaction;
+    }
 
-  -- one own operand is taken
-  popped_once : (fs : List FlatFrame) (is : List ℕ) (x : MaybeType) (rest : List MaybeType) (t : Transaction) → 0 < length (innermost_operands (state_from_heights fs (x ∷ rest) is).frames) → length rest < or → Sound fs (x ∷ rest) is t → Sound fs rest is (with_pop x t) × (at fs rest is (with_pop x t) ≡ body_popped (at fs (x ∷ rest) is t))
-  popped_once [] is x rest t own room w = absurd (omega (arith, own))
-  popped_once (g ∷ gs) is x rest t own room w =
-      let fs : List FlatFrame = g ∷ gs in
-      let high : g.height ≤ length rest = omega (arith, own-cut fs g (x ∷ rest) is refl, own) in (
-        sound_pop fr fs g or or x rest ir en is t ls refl high room refl w,
-        ap (λ u. state_of fs rest is s nf ls en u) (undone_pop fs x rest is t) ∙ (above_height fs g x rest is s nf ls en (undone_pending fs (x ∷ rest) is t) refl high).1,
-      )
+-- a local set, if asked for
+abbrev pub flat_setting : Option ℕ → FlatStacks → FlatStacks
+flat_setting sets s = record s { order = order_set sets s.set_at_entry s.order }
 
-  -- one less is left
-  own_less : (fs : List FlatFrame) (is : List ℕ) (n : ℕ) (x : MaybeType) (rest : List MaybeType) → suc n ≤ length (innermost_operands (state_from_heights fs (x ∷ rest) is).frames) → n ≤ length (innermost_operands (state_from_heights fs rest is).frames)
-  own_less [] is n x rest own = absurd (omega (arith, own))
-  own_less (g ∷ gs) is n x rest own = omega (arith, own, own-cut (g ∷ gs) g (x ∷ rest) is refl, own-cut (g ∷ gs) g rest is refl)
+-- a frame opened, if asked for
+abbrev pub flat_opened : Option (FrameKind × BlockType) → FlatStacks → FlatStacks
+flat_opened o s =
+    record s {
+      frames = frames_opened o (length s.operands) (length s.order) s.frames;
+      transaction = log_opened o s.transaction;
+    }
 
-  -- so many own operands are taken
-  pub popped : (fs : List FlatFrame) (is : List ℕ) (n : ℕ) (operands : List MaybeType) (t : Transaction) → n ≤ length (innermost_operands (state_from_heights fs operands is).frames) → length operands ≤ or → Sound fs operands is t → Sound fs (drop n operands) is (log_popped (take n operands) t) × (at fs (drop n operands) is (log_popped (take n operands) t) ≡ body_dropped n (at fs operands is t))
-  popped fs is zero operands t own room w = (w, sym (dropped_none (at fs operands is t)))
-  popped fs is (suc n) [] t own room w = absurd (omega (arith, own, own_within fs [] is))
-  popped fs is (suc n) (x ∷ rest) t own room w =
-      let once = popped_once fs is x rest t (omega (arith, own)) (omega (arith, room)) w in
-      let others = popped fs is n rest (with_pop x t) (own_less fs is n x rest own) (omega (arith, room)) once.0 in
-      (others.0, others.1 ∙ ap (body_dropped n) once.1 ∙ dropped_after n (at fs (x ∷ rest) is t))
+-- an operand pushed of each of these types
+abbrev pub flat_given : List ValType → FlatStacks → FlatStacks
+flat_given gs s =
+    record s { operands = operands_given gs s.operands; transaction = log_pushed gs s.transaction }
 
-  -- what an attempt allows stays allowed
-  taken_frame : (fs : List FlatFrame) (is : List ℕ) (n : ℕ) (operands : List MaybeType) (t : Transaction) → at fs (drop n operands) is (log_popped (take n operands) t) ≡ body_dropped n (at fs operands is t) → may_frame (whole fs operands is t) ≡ true → may_frame (whole fs (drop n operands) is (log_popped (take n operands) t)) ≡ true
-  taken_frame fs is n operands t e = frame_after (whole fs operands is t) (whole fs (drop n operands) is (log_popped (take n operands) t)) (subst (IsKept (at fs operands is t)) (sym e) refl) (phase_popped (length is) (take n operands) t)
+-- one more pushed, if asked for
+abbrev pub flat_topped : Option MaybeType → FlatStacks → FlatStacks
+flat_topped top s =
+    record s { operands = operands_topped top s.operands; transaction = log_topped top s.transaction }
 
-  taken_unset : (fs : List FlatFrame) (is : List ℕ) (n : ℕ) (operands : List MaybeType) (t : Transaction) → at fs (drop n operands) is (log_popped (take n operands) t) ≡ body_dropped n (at fs operands is t) → may_unset (whole fs operands is t) ≡ true → may_unset (whole fs (drop n operands) is (log_popped (take n operands) t)) ≡ true
-  taken_unset fs is n operands t e =
-      unset_after (whole fs operands is t) (whole fs (drop n operands) is (log_popped (take n operands) t)) (subst (IsKept (at fs operands is t)) (sym e) refl) (phase_popped (length is) (take n operands) t)
-      (ap (λ (v : BodyState). innermost_first_set v.present.frames) e ∙ first_set_stays n (at fs operands is t))
+-- all of them, as a change asks for
+abbrev pub flat_left : Change → FlatStacks → FlatStacks
+flat_left c s = flat_setting c.sets (flat_closed c.closes (flat_dropped c.popped s))
 
-  -- the frame is closed, if asked for
-  pub closed : (b : Bool) (fs : List FlatFrame) (is : List ℕ) (operands : List MaybeType) (t : Transaction) → (b ≡ true → innermost_operands (state_from_heights fs operands is).frames ≡ []) → (b ≡ true → may_frame (whole fs operands is t) ≡ true) → (b ≡ true → may_unset (whole fs operands is t) ≡ true) → length fs ≤ fr → Sound fs operands is t → Sound (frames_closed b fs) operands (order_closed b fs is) (log_closed b fs is t) × (at (frames_closed b fs) operands (order_closed b fs is) (log_closed b fs is t) ≡ body_closed b (at fs operands is t))
-  closed false fs is operands t own m k room w = (w, refl)
-  closed true [] is operands t own m k room w = (w, refl)
-  closed true (f ∷ fs) is operands t own m k room w = (
-    sound_close f fs fr fr or operands ir ir en en is t s nf ls (own refl) (m refl) (k refl) (omega (arith, room)) refl refl refl w,
-    state_close f fs fr or operands ir en is t s nf ls (own refl) (m refl) (k refl) w,
-  )
+abbrev pub flat_changed : Change → FlatStacks → FlatStacks
+flat_changed c s = flat_topped c.top (flat_given c.pushed.now (flat_opened c.opens (flat_left c s)))
 
-  taken_set : (fs : List FlatFrame) (is : List ℕ) (n : ℕ) (operands : List MaybeType) (t : Transaction) → at fs (drop n operands) is (log_popped (take n operands) t) ≡ body_dropped n (at fs operands is t) → may_set (whole fs operands is t) ≡ true → may_set (whole fs (drop n operands) is (log_popped (take n operands) t)) ≡ true
-  taken_set fs is n operands t e = set_after (whole fs operands is t) (whole fs (drop n operands) is (log_popped (take n operands) t)) (subst (IsKept (at fs operands is t)) (sym e) refl) (phase_popped (length is) (take n operands) t)
+-- what a step leaves is sound, and stands for what it makes of the body
+abbrev pub Makes : (BodyState → BodyState) → FlatStacks → FlatStacks → Type 0
+Makes f s w = IsSound w × (body_from w ≡ f (body_from s))
 
-  closed_frame : (b : Bool) (fs : List FlatFrame) (is : List ℕ) (operands : List MaybeType) (t : Transaction) → may_frame (whole fs operands is t) ≡ true → may_frame (whole (frames_closed b fs) operands (order_closed b fs is) (log_closed b fs is t)) ≡ true
-  closed_frame false fs is operands t m = m
-  closed_frame true [] is operands t m = m
-  closed_frame true (f ∷ fs) is operands t m = frames_close f fs operands is (take f.init_height is) (drop f.init_height is) t s nf ls en m
+-- the innermost frame, where it has an operand
+first_there :
+    (fs : List FlatFrame) (operands : List MaybeType) (is : List ℕ) →
+    0 < length (innermost_operands (state_from_heights fs operands is).frames) → (f : FlatFrame)
+    × (slice_get fs 0 ≡ Some f)
+first_there [] operands is own = absurd (omega (arith, own))
+first_there (g ∷ gs) operands is own = (g, refl)
 
-  -- a local is set, if asked for
-  pub setting : (sets : Option ℕ) (fs : List FlatFrame) (is : List ℕ) (operands : List MaybeType) (t : Transaction) → (sets ≢ None → may_set (whole fs operands is t) ≡ true) → (sets ≢ None → 0 < length fs) → length (order_set sets en is) ≤ ir → AreFresh en (order_set sets en is) → Sound fs operands is t → Sound fs operands (order_set sets en is) t × (at fs operands (order_set sets en is) t ≡ body_setting sets (at fs operands is t))
-  setting None fs is operands t may opened_now room fresh w = (w, refl)
-  setting (Some i) fs is operands t may opened_now room fresh w =
-      let v : Inits = record { set_at_entry = en; order = is; room = 0; declared_room = 0 } in
-      let new : List ℕ = order_set (Some i) en is in
-      let b : Bool = is_local_set en is i in
-      let m = may (λ e. cc) in
-      let o = opened_now (λ e. cc) in (
-        record {
-          shape = shape_set fs (length operands) v new i o w.shape refl;
-          marks = w.marks;
-          undo = undo_set b fr or ir ir fs operands is new i t s nf ls en en m refl refl room fresh w;
-        },
-        ap (λ u. state_of fs operands new s nf ls en u) (undone_set b fr or ir fs operands is new i t s nf ls en m refl w)
-            ∙ set_state fs operands v new s nf ls (undone_pending fs operands is t) i o w.shape refl,
-      )
+-- with these operands
+abbrev holding : List MaybeType → FlatStacks → FlatStacks
+holding operands s = record s { operands = operands }
 
-  -- a frame is opened, if asked for
-  pub opened : (o : Option (FrameKind × BlockType)) (fs : List FlatFrame) (is : List ℕ) (operands : List MaybeType) (t : Transaction) → (o ≢ None → may_frame (whole fs operands is t) ≡ true) → Sound fs operands is t → Sound (frames_opened o (length operands) (length is) fs) operands is (log_opened o t) × (at (frames_opened o (length operands) (length is) fs) operands is (log_opened o t) ≡ body_opened o (at fs operands is t))
-  opened None fs is operands t m w = (w, refl)
-  opened (Some o) fs is operands t m w =
-      let may = m (λ e. cc) in
-      (sound_open o.0 o.1 fr fr fs or operands ir en is t s nf ls may (omega arith) w, state_open o.0 o.1 fs operands is t s nf ls en may)
+-- one own operand is taken
+popped_once :
+    (x : MaybeType) (rest : List MaybeType) (s : FlatStacks) → 0 < length (own_of (holding (x ∷ rest) s)) →
+    length rest < s.operands_room → IsSound (holding (x ∷ rest) s) →
+    Makes body_popped (holding (x ∷ rest) s) (popped_off x (holding rest s))
+popped_once x rest s own room w =
+    let first = first_there s.frames (x ∷ rest) s.order own in
+    let count = own-cut s.frames first.0 (x ∷ rest) s.order first.1 in
+    let high : first.0.height ≤ length rest = omega (arith, count, own) in (
+      sound_pop (holding rest s) first.0 x first.1 high room w,
+      body_pop (holding rest s) first.0 x first.1 high,
+    )
 
-  -- one is pushed
-  pushed_once : (fs : List FlatFrame) (is : List ℕ) (x : MaybeType) (operands : List MaybeType) (t : Transaction) → Sound fs operands is t → Sound fs (x ∷ operands) is (with_push t) × (at fs (x ∷ operands) is (with_push t) ≡ body_pushed x (at fs operands is t))
-  pushed_once fs is x operands t w = (
-    sound_push fr fs or or x operands ir en is t ls (omega arith) w,
-    ap (λ u. state_of fs (x ∷ operands) is s nf ls en u) (undone_push fs x operands is t)
-        ∙ ap (λ (p : State). record { present = p; shared = s; features = nf; locals = ls; set_at_entry = en; undone = undone_pending fs operands is t }) (cut-push fs x operands is (length is) w.shape),
-  )
+-- one less is left
+own_less :
+    (fs : List FlatFrame) (is : List ℕ) (n : ℕ) (x : MaybeType) (rest : List MaybeType) →
+    suc n ≤ length (innermost_operands (state_from_heights fs (x ∷ rest) is).frames) →
+    n ≤ length (innermost_operands (state_from_heights fs rest is).frames)
+own_less [] is n x rest own = absurd (omega (arith, own))
+own_less (g ∷ gs) is n x rest own =
+    omega (arith, own, own-cut (g ∷ gs) g (x ∷ rest) is refl, own-cut (g ∷ gs) g rest is refl)
 
-  -- all of a list is given
-  pub pushed : (fs : List FlatFrame) (is : List ℕ) (gs : List ValType) (operands : List MaybeType) (t : Transaction) → Sound fs operands is t → Sound fs (operands_given gs operands) is (log_pushed gs t) × (at fs (operands_given gs operands) is (log_pushed gs t) ≡ body_pushed_each gs (at fs operands is t))
-  pushed fs is [] operands t w = (w, refl)
-  pushed fs is (g ∷ gs) operands t w =
-      let once = pushed_once fs is (Known g) operands t w in
-      let rest = pushed fs is gs (Known g ∷ operands) (with_push t) once.0 in
-      (rest.0, rest.1 ∙ ap (body_pushed_each gs) once.1)
+-- so many own operands are taken
+popped :
+    (n : ℕ) (operands : List MaybeType) (s : FlatStacks) → n ≤ length (own_of (holding operands s)) →
+    length operands ≤ s.operands_room → IsSound (holding operands s) →
+    Makes (body_dropped n) (holding operands s) (flat_dropped n (holding operands s))
+popped zero operands s own room w = (w, sym (dropped_none (body_from (holding operands s))))
+popped (suc n) [] s own room w = absurd (omega (arith, own, own_within s.frames [] s.order))
+popped (suc n) (x ∷ rest) s own room w =
+    let once = popped_once x rest s (omega (arith, own)) (omega (arith, room)) w in
+    let less = own_less s.frames s.order n x rest own in
+    let others = popped n rest (popped_off x s) less (omega (arith, room)) once.0 in
+    (others.0, others.1 ∙ ap (body_dropped n) once.1 ∙ dropped_after n (body_from (holding (x ∷ rest) s)))
 
-  -- and one above them
-  pub topped : (fs : List FlatFrame) (is : List ℕ) (top : Option MaybeType) (operands : List MaybeType) (t : Transaction) → Sound fs operands is t → Sound fs (operands_topped top operands) is (log_topped top t) × (at fs (operands_topped top operands) is (log_topped top t) ≡ body_topped top (at fs operands is t))
-  topped fs is None operands t w = (w, refl)
-  topped fs is (Some x) operands t w = pushed_once fs is x operands t w
+-- what an attempt allows stays allowed
+module _ (n : ℕ) (s : FlatStacks) (e : body_from (flat_dropped n s) ≡ body_dropped n (body_from s)) where
+  kept : IsKept (body_from s) (body_from (flat_dropped n s))
+  kept = subst (IsKept (body_from s)) (sym e) refl
 
-  -- what a change makes of the flat lists
-  abbrev order_by : Bool → Option ℕ → List FlatFrame → List ℕ → List ℕ
-  order_by b sets fs is = order_set sets en (order_closed b fs is)
+  moved : phase_moved (stacked_of (flat_dropped n s)).phase ≡ phase_moved (stacked_of s).phase
+  moved = phase_popped (length s.order) (take n s.operands) s.transaction
 
-  abbrev frames_by : Bool → Option ℕ → Option (FrameKind × BlockType) → List FlatFrame → List ℕ → ℕ → List FlatFrame
-  frames_by b sets o fs is height = frames_opened o height (length (order_by b sets fs is)) (frames_closed b fs)
+  taken_frame : may_frame (stacked_of s) ≡ true → may_frame (stacked_of (flat_dropped n s)) ≡ true
+  taken_frame = frame_after (stacked_of s) (stacked_of (flat_dropped n s)) kept moved
 
-  abbrev operands_by : ℕ → List ValType → Option MaybeType → List MaybeType → List MaybeType
-  operands_by n gs top operands = operands_topped top (operands_given gs (drop n operands))
+  taken_unset : may_unset (stacked_of s) ≡ true → may_unset (stacked_of (flat_dropped n s)) ≡ true
+  taken_unset =
+      unset_after (stacked_of s) (stacked_of (flat_dropped n s)) kept moved
+      (ap (λ (v : BodyState). innermost_first_set v.present.frames) e ∙ first_set_stays n (body_from s))
 
-  abbrev log_by : ℕ → Bool → Option (FrameKind × BlockType) → List ValType → Option MaybeType → List FlatFrame → List MaybeType → List ℕ → Transaction → Transaction
-  log_by n b o gs top fs operands is t = log_topped top (log_pushed gs (log_opened o (log_closed b fs is (log_popped (take n operands) t))))
+  taken_set : may_set (stacked_of s) ≡ true → may_set (stacked_of (flat_dropped n s)) ≡ true
+  taken_set = set_after (stacked_of s) (stacked_of (flat_dropped n s)) kept moved
 
-  -- what allows it
-  pub record Allowed (n : ℕ) (b : Bool) (sets : Option ℕ) (o : Option (FrameKind × BlockType)) (fs : List FlatFrame) (operands : List MaybeType) (is : List ℕ) (t : Transaction) : Type 0 where
-    pub own : n ≤ length (innermost_operands (state_from_heights fs operands is).frames)
-    pub bare : b ≡ true → length (innermost_operands (state_from_heights fs operands is).frames) ≡ n
-    pub closing : b ≡ true → may_frame (whole fs operands is t) ≡ true
-    pub unsets : b ≡ true → may_unset (whole fs operands is t) ≡ true
-    pub opening : o ≢ None → may_frame (whole fs operands is t) ≡ true
-    pub sets_now : sets ≢ None → may_set (whole fs operands is t) ≡ true
-    pub within : sets ≢ None → 0 < length fs
-    pub alone : sets ≢ None → (b ≡ false) × (o ≡ None)
-    pub operands_room : length operands ≤ or
-    pub frames_room : length fs ≤ fr
-    pub order_room : length (order_by b sets fs is) ≤ ir
-    pub fresh : AreFresh en (order_by b sets fs is)
+-- the frame is closed, if asked for
+closed :
+    (b : Bool) (fs : List FlatFrame) (s : FlatStacks) → (b ≡ true → own_of (record s { frames = fs }) ≡ []) →
+    (b ≡ true → may_frame (stacked_of (record s { frames = fs })) ≡ true) →
+    (b ≡ true → may_unset (stacked_of (record s { frames = fs })) ≡ true) → length fs ≤ s.frames_room →
+    IsSound (record s { frames = fs }) →
+    Makes (body_closed b) (record s { frames = fs }) (flat_closed b (record s { frames = fs }))
+closed false fs s own m k room w = (w, refl)
+closed true [] s own m k room w = (w, refl)
+closed true (f ∷ fs) s own m k room w = (
+  sound_close s f fs (own refl) (m refl) (k refl) (omega (arith, room)) w,
+  body_close s f fs (own refl) (m refl) (k refl) w,
+)
 
-  -- all of them
-  pub changed : (n : ℕ) (b : Bool) (sets : Option ℕ) (o : Option (FrameKind × BlockType)) (gs : List ValType) (top : Option MaybeType) (fs : List FlatFrame) (operands : List MaybeType) (is : List ℕ) (t : Transaction) → Allowed n b sets o fs operands is t → Sound fs operands is t → Sound (frames_by b sets o fs is (length (drop n operands))) (operands_by n gs top operands) (order_by b sets fs is) (log_by n b o gs top fs operands is t) × (at (frames_by b sets o fs is (length (drop n operands))) (operands_by n gs top operands) (order_by b sets fs is) (log_by n b o gs top fs operands is t) ≡ body_topped top (body_pushed_each gs (body_opened o (body_setting sets (body_closed b (body_dropped n (at fs operands is t)))))))
-  changed n b sets o gs top fs operands is t a w =
-      let left : List MaybeType = drop n operands in
-      let log : Transaction = log_popped (take n operands) t in
-      let one = popped fs is n operands t a.own a.operands_room w in
-      let two = closed b fs is left log (λ e. bare_after fs operands is n (a.bare e)) (λ e. taken_frame fs is n operands t one.1 (a.closing e)) (λ e. taken_unset fs is n operands t one.1 (a.unsets e)) a.frames_room one.0 in
-      let three = setting sets (frames_closed b fs) (order_closed b fs is) left (log_closed b fs is log) (λ e. still_set b fs is left log (a.alone e).0 (taken_set fs is n operands t one.1 (a.sets_now e))) (λ e. still_open b fs (a.alone e).0 (a.within e)) a.order_room a.fresh two.0 in
-      let four = opened o (frames_closed b fs) (order_by b sets fs is) left (log_closed b fs is log) (λ e. still_frame sets o b fs is left log a.alone e (closed_frame b fs is left log (taken_frame fs is n operands t one.1 (a.opening e)))) three.0 in
-      let five = pushed (frames_by b sets o fs is (length left)) (order_by b sets fs is) gs left (log_opened o (log_closed b fs is log)) four.0 in
-      let six = topped (frames_by b sets o fs is (length left)) (order_by b sets fs is) top (operands_given gs left) (log_pushed gs (log_opened o (log_closed b fs is log))) five.0 in
-      (six.0, six.1 ∙ ap (body_topped top) (five.1 ∙ ap (body_pushed_each gs) (four.1 ∙ ap (body_opened o) (three.1 ∙ ap (body_setting sets) (two.1 ∙ ap (body_closed b) one.1)))))
-    where
-      still_set : (b : Bool) (fs : List FlatFrame) (is : List ℕ) (operands : List MaybeType) (t : Transaction) → b ≡ false → may_set (whole fs operands is t) ≡ true → may_set (whole (frames_closed b fs) operands (order_closed b fs is) (log_closed b fs is t)) ≡ true
-      still_set false fs is operands t e m = m
-      still_set true fs is operands t e m = cc
+closed_frame :
+    (b : Bool) (fs : List FlatFrame) (s : FlatStacks) →
+    may_frame (stacked_of (record s { frames = fs })) ≡ true →
+    may_frame (stacked_of (flat_closed b (record s { frames = fs }))) ≡ true
+closed_frame false fs s m = m
+closed_frame true [] s m = m
+closed_frame true (f ∷ fs) s m = frames_close s f fs m
 
-      still_open : (b : Bool) (fs : List FlatFrame) → b ≡ false → 0 < length fs → 0 < length (frames_closed b fs)
-      still_open false fs e m = m
-      still_open true fs e m = cc
+-- a local is set, if asked for
+setting :
+    (sets : Option ℕ) (s : FlatStacks) → (sets ≢ None → may_set (stacked_of s) ≡ true) →
+    (sets ≢ None → 0 < length s.frames) → length (order_set sets s.set_at_entry s.order) ≤ s.order_room →
+    AreFresh s.set_at_entry (order_set sets s.set_at_entry s.order) → IsSound s →
+    Makes (body_setting sets) s (flat_setting sets s)
+setting None s may opened_now room fresh w = (w, refl)
+setting (Some i) s may opened_now room fresh w =
+    let b : Bool = is_local_set s.set_at_entry s.order i in
+    let m = may (λ e. cc) in
+    let o = opened_now (λ e. cc) in (
+      record { shape = shape_set s i o w.shape; marks = w.marks; undo = undo_set b s i m room fresh w },
+      ap (λ (u : Option State). record (body_from (flat_setting (Some i) s)) { undone = u })
+          (undone_set b s i m w)
+          ∙ set_state s i o w.shape,
+    )
 
-      still_frame : (sets : Option ℕ) (o : Option (FrameKind × BlockType)) (b : Bool) (fs : List FlatFrame) (is : List ℕ) (operands : List MaybeType) (t : Transaction) → (sets ≢ None → (b ≡ false) × (o ≡ None)) → o ≢ None → may_frame (whole (frames_closed b fs) operands (order_closed b fs is) (log_closed b fs is t)) ≡ true → may_frame (whole (frames_closed b fs) operands (order_by b sets fs is) (log_closed b fs is t)) ≡ true
-      still_frame None o b fs is operands t alone some m = m
-      still_frame (Some i) o b fs is operands t alone some m = absurd (some (alone (λ e. cc)).1)
+-- a frame is opened, if asked for
+opened :
+    (o : Option (FrameKind × BlockType)) (s : FlatStacks) → (o ≢ None → may_frame (stacked_of s) ≡ true) →
+    IsSound s → Makes (body_opened o) s (flat_opened o s)
+opened None s m w = (w, refl)
+opened (Some o) s m w =
+    let may = m (λ e. cc) in
+    (sound_open o.0 o.1 s s.frames_room may (omega arith) w, body_open o.0 o.1 s may)
 
-  -- the same of lists that are equal to those
-  pub changed_there : (n : ℕ) (b : Bool) (sets : Option ℕ) (o : Option (FrameKind × BlockType)) (gs : List ValType) (top : Option MaybeType) (fs : List FlatFrame) (operands : List MaybeType) (is : List ℕ) (t : Transaction) → Allowed n b sets o fs operands is t → Sound fs operands is t → (fs' : List FlatFrame) (operands' : List MaybeType) (is' : List ℕ) (t' : Transaction) (en' : List Bool) → fs' ≡ frames_by b sets o fs is (length (drop n operands)) → operands' ≡ operands_by n gs top operands → is' ≡ order_by b sets fs is → t' ≡ log_by n b o gs top fs operands is t → en' ≡ en → IsSound fr fs' or operands' ir en' is' t' ls × (state_of fs' operands' is' s nf ls en' (undone_pending fs' operands' is' t') ≡ body_topped top (body_pushed_each gs (body_opened o (body_setting sets (body_closed b (body_dropped n (at fs operands is t)))))))
-  changed_there n b sets o gs top fs operands is t a w fs' operands' is' t' en' p q r u e =
-      rw (p, q, r, u, e) (changed n b sets o gs top fs operands is t a w)
+-- one is pushed
+pushed_once : (x : MaybeType) (s : FlatStacks) → IsSound s → Makes (body_pushed x) s (pushed_on x s)
+pushed_once x s w = (sound_push s x s.operands_room (omega arith) w, body_push s x w)
+
+-- all of a list is given
+given : (gs : List ValType) (s : FlatStacks) → IsSound s → Makes (body_pushed_each gs) s (flat_given gs s)
+given [] s w = (w, refl)
+given (g ∷ gs) s w =
+    let once = pushed_once (Known g) s w in
+    let rest = given gs (pushed_on (Known g) s) once.0 in
+    (rest.0, rest.1 ∙ ap (body_pushed_each gs) once.1)
+
+-- and one above them
+topped : (top : Option MaybeType) (s : FlatStacks) → IsSound s → Makes (body_topped top) s (flat_topped top s)
+topped None s w = (w, refl)
+topped (Some x) s w = pushed_once x s w
+
+-- ---- a whole change
+
+-- what allows it
+pub record Allowed (c : Change) (s : FlatStacks) : Type 0 where
+  pub may : MayChange c (stacked_of s)
+  pub operands_room : length s.operands ≤ s.operands_room
+  pub frames_room : length s.frames ≤ s.frames_room
+  pub order_room : length (flat_left c s).order ≤ s.order_room
+  pub fresh : AreFresh s.set_at_entry (flat_left c s).order
+
+-- where no frame is closed or opened, what a local needs to be set stays
+still_set :
+    (b : Bool) (s : FlatStacks) → b ≡ false → may_set (stacked_of s) ≡ true →
+    may_set (stacked_of (flat_closed b s)) ≡ true
+still_set false s e m = m
+still_set true s e m = cc
+
+still_open :
+    (b : Bool) (fs : List FlatFrame) → b ≡ false → 0 < length fs → 0 < length (frames_closed b fs)
+still_open false fs e m = m
+still_open true fs e m = cc
+
+still_frame :
+    (sets : Option ℕ) (o : Option (FrameKind × BlockType)) (s : FlatStacks) → (sets ≢ None → o ≡ None) →
+    o ≢ None → may_frame (stacked_of s) ≡ true → may_frame (stacked_of (flat_setting sets s)) ≡ true
+still_frame None o s alone some m = m
+still_frame (Some i) o s alone some m = absurd (some (alone (λ e. cc)))
+
+-- all of its steps
+changed :
+    (c : Change) (s : FlatStacks) → Allowed c s → IsSound s → Makes (body_changed c) s (flat_changed c s)
+changed c s a w =
+    let taken = flat_dropped c.popped s in
+    let left = flat_left c s in
+    let one = popped c.popped s.operands s a.may.own a.operands_room w in
+    let two =
+    closed c.closes s.frames taken bare (λ e. taken_frame c.popped s one.1 (a.may.closing e))
+    (λ e. taken_unset c.popped s one.1 (a.may.unsets e)) a.frames_room one.0 in
+    let three =
+    setting c.sets (flat_closed c.closes taken) (may_be_set one.1) there a.order_room a.fresh two.0 in
+    let four = opened c.opens left (may_be_opened one.1) three.0 in
+    let five = given c.pushed.now (flat_opened c.opens left) four.0 in
+    let six = topped c.top (flat_given c.pushed.now (flat_opened c.opens left)) five.0 in
+    let under =
+    four.1
+    ∙ ap (body_opened c.opens)
+    (three.1 ∙ ap (body_setting c.sets) (two.1 ∙ ap (body_closed c.closes) one.1)) in
+    (six.0, six.1 ∙ ap (body_topped c.top) (five.1 ∙ ap (body_pushed_each c.pushed.now) under))
+  where
+    bare : c.closes ≡ true → own_of (flat_dropped c.popped s) ≡ []
+    bare e = bare_after s.frames s.operands s.order c.popped (a.may.whole e)
+
+    there : c.sets ≢ None → 0 < length (frames_closed c.closes s.frames)
+    there e =
+        still_open c.closes s.frames (a.may.set_alone e).0
+        (some_flat s.frames s.operands s.order (a.may.set_within e))
+
+    may_be_set :
+        body_from (flat_dropped c.popped s) ≡ body_dropped c.popped (body_from s) → c.sets ≢ None →
+        may_set (stacked_of (flat_closed c.closes (flat_dropped c.popped s))) ≡ true
+    may_be_set one e =
+        still_set c.closes (flat_dropped c.popped s) (a.may.set_alone e).0
+        (taken_set c.popped s one (a.may.setting e))
+
+    may_be_opened :
+        body_from (flat_dropped c.popped s) ≡ body_dropped c.popped (body_from s) → c.opens ≢ None →
+        may_frame (stacked_of (flat_left c s)) ≡ true
+    may_be_opened one e =
+        still_frame c.sets c.opens (flat_closed c.closes (flat_dropped c.popped s))
+        (λ i. (a.may.set_alone i).1) e
+        (closed_frame c.closes s.frames (flat_dropped c.popped s)
+        (taken_frame c.popped s one (a.may.opening e)))
+
+-- with these lists
+abbrev pub with_lists :
+    List FlatFrame → List MaybeType → List ℕ → Transaction → List Bool → FlatStacks → FlatStacks
+with_lists fs operands is t en s =
+    record s { frames = fs; operands = operands; order = is; transaction = t; set_at_entry = en }
+
+-- the same of lists that are equal to those
+pub changed_there :
+    (c : Change) (s : FlatStacks) (fs : List FlatFrame) (operands : List MaybeType) (is : List ℕ)
+    (t : Transaction) (en : List Bool) → fs ≡ (flat_changed c s).frames →
+    operands ≡ (flat_changed c s).operands → is ≡ (flat_changed c s).order →
+    t ≡ (flat_changed c s).transaction → en ≡ s.set_at_entry → Allowed c s → IsSound s →
+    Makes (body_changed c) s (with_lists fs operands is t en s)
+changed_there c s fs operands is t en p q r u e a w = rw (p, q, r, u, e) (changed c s a w)

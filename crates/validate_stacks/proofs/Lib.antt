@@ -9,6 +9,7 @@ pub mod Whole
 pub mod ClosedFrames
 pub mod PopRuns
 pub mod AtOnce
+mod Idle
 mod KnownAs
 mod Changed
 pub mod Moves

@@ -1,7 +1,7 @@
 -- The frames' own parts of the flat lists: where heights stand for lists (Specification, appendix
 -- "Validation Algorithm": ctrl_frame, with its height).
-use Rattle.std.specs.Prelude.{◌≡◌, ℕ, ◌+◌, ◌-◌, ◌≤◌, List, [], ◌∷◌, ◌++◌, Bool, true, false, not, Option, Some}
-use Rattle.std.specs.Prelude.{None, length, take, drop, nat_lt, if◌then◌else◌}
+use Rattle.std.specs.Prelude.{◌≡◌, ℕ, ◌+◌, ◌-◌, ◌≤◌, List, [], ◌∷◌, ◌++◌, Bool, true, false, not, Option}
+use Rattle.std.specs.Prelude.{Some, None, length, take, drop, nat_lt, if◌then◌else◌}
 use Rattle.validate_locals.specs.Inits.{AreFresh}
 use Rattle.validate_transaction.specs.Log.{Log}
 use Rattle.validate_transaction.specs.TakeBack.{is_empty, items_taken_back, CanTakeBack}
@@ -13,6 +13,7 @@ use Rattle.validate_visit.specs.declared.frame.Frame.{Frame as FlatFrame}
 use Rattle.validation_rules.specs.Fits.{MaybeType}
 use Rattle.validation_rules.specs.Static.{Frame, State, operand_count_in, locals_set}
 use Rattle.validate_stacks.specs.Attempts.{Phase, Clean, Moved, Set, Framed, Unset, Marked, Stacked}
+use Rattle.validate_stacks.specs.State.{BodyState}
 
 abbrev pub state_with_frame : Frame → State → State
 state_with_frame f s = record { frames = f ∷ s.frames; left = s.left }
@@ -81,53 +82,80 @@ phase_of n (Active log) =
     else Clean
 phase_of n (Inactive allocs) = Clean
 
--- the log can be taken back, within the room that is there
-pub record CanUndo
-    (fr : ℕ) (fs : List FlatFrame) (or : ℕ) (stack : List MaybeType) (ir : ℕ) (set_at_entry : List Bool)
-    (order : List ℕ) (log : Log) : Type 0 where
-  pub shape :
-      HasShape (undone_frames fs log) (length (items_taken_back stack log.operands))
-      (length (undone_inits fs order log))
-  pub frames : CanTakeBack fr (frames_unmarked log.unreachable fs) log.frames
-  pub operands : CanTakeBack or stack log.operands
-  pub room : length (order ++ log.inits) ≤ ir
-  -- what is set and what was unset was unset when it was declared, each once
-  pub fresh : AreFresh set_at_entry (order ++ log.inits)
-  -- no frame that goes was opened before a local that is set was set
-  pub still : inits_in_frames (frames_unmarked log.unreachable fs) order log.frames ≡ order
-  pub full : log.init_height ≤ length (order ++ log.inits)
+-- ---- the stacks as they are kept
 
-abbrev pub CanUndoAny :
-    ℕ → List FlatFrame → ℕ → List MaybeType → ℕ → List Bool → List ℕ → Transaction → Type 0
-CanUndoAny fr fs or operands ir set_at_entry order (Active log) =
-    CanUndo fr fs or operands ir set_at_entry order log
-CanUndoAny fr fs or operands ir set_at_entry order (Inactive allocs) = Unit {0}
+-- The stacks of a body in flat lists, as the standard's algorithm has them, with the log of an attempt.
+pub record FlatStacks : Type 0 where
+  -- the open frames with their heights, the innermost first (ctrls)
+  pub frames : List FlatFrame
+  -- the operands of all frames, the top first (vals)
+  pub operands : List MaybeType
+  -- the locals that were first set since the body began, in order (inits)
+  pub order : List ℕ
+  -- which locals are set when the body begins
+  pub set_at_entry : List Bool
+  -- the declared types of the locals
+  pub locals : List ValType
+  -- the log of an attempt, if one is pending
+  pub transaction : Transaction
+  -- whether the function is shared
+  pub shared : Bool
+  -- the proposals that are on
+  pub features : WasmFeatures
+  -- how many frames there is room for; how many operands; how many locals that were first set
+  pub frames_room : ℕ
+  pub operands_room : ℕ
+  pub order_room : ℕ
+
+-- the body that they stand for
+abbrev pub body_from : FlatStacks → BodyState
+body_from s =
+    record {
+      present = state_from_heights s.frames s.operands s.order;
+      shared = s.shared;
+      features = s.features;
+      locals = s.locals;
+      set_at_entry = s.set_at_entry;
+      undone = undone_pending s.frames s.operands s.order s.transaction;
+    }
+
+-- with how far the attempt has come
+abbrev pub stacked_of : FlatStacks → Stacked
+stacked_of s = record { body = body_from s; phase = phase_of (length s.order) s.transaction }
+
+-- What was unset can be set again behind what is set: within the room, each was unset when it was declared,
+-- once, and then all is set that was set when the attempt began.
+abbrev pub CanSetAgain : FlatStacks → Log → Type 0
+CanSetAgain s log =
+    record {
+      room : length (s.order ++ log.inits) ≤ s.order_room;
+      fresh : AreFresh s.set_at_entry (s.order ++ log.inits);
+      full : log.init_height ≤ length (s.order ++ log.inits);
+    }
+
+-- the log can be taken back, within the room that is there
+pub record CanUndo (s : FlatStacks) (log : Log) : Type 0 where
+  pub shape :
+      HasShape (undone_frames s.frames log) (length (items_taken_back s.operands log.operands))
+      (length (undone_inits s.frames s.order log))
+  pub frames : CanTakeBack s.frames_room (frames_unmarked log.unreachable s.frames) log.frames
+  pub operands : CanTakeBack s.operands_room s.operands log.operands
+  pub inits : CanSetAgain s log
+  -- no frame that goes was opened before a local that is set was set
+  pub still : inits_in_frames (frames_unmarked log.unreachable s.frames) s.order log.frames ≡ s.order
+
+-- so can this attempt, if it is one
+abbrev pub CanUndoAny : FlatStacks → Transaction → Type 0
+CanUndoAny s (Active log) = CanUndo s log
+CanUndoAny s (Inactive allocs) = Unit {0}
 
 -- the heights fit the lists, each local has its mark, and a pending attempt can be taken back
-pub record IsSound
-    (fr : ℕ) (frames : List FlatFrame) (or : ℕ) (operands : List MaybeType) (ir : ℕ) (set_at_entry : List Bool)
-    (order : List ℕ) (t : Transaction) (locals : List ValType) : Type 0 where
-  pub shape : HasShape frames (length operands) (length order)
-  pub marks : length set_at_entry ≡ length locals
-  pub undo : CanUndoAny fr frames or operands ir set_at_entry order t
+pub record IsSound (s : FlatStacks) : Type 0 where
+  pub shape : HasShape s.frames (length s.operands) (length s.order)
+  pub marks : length s.set_at_entry ≡ length s.locals
+  pub undo : CanUndoAny s s.transaction
 
--- what the flat lists and the log stand for
-abbrev pub stacked_of :
-    List FlatFrame → List MaybeType → List ℕ → Transaction → Bool → WasmFeatures → List ValType → List Bool →
-    Stacked
-stacked_of fs operands order t shared features locals set_at_entry =
-    record {
-      body =
-          record {
-            present = state_from_heights fs operands order;
-            shared = shared;
-            features = features;
-            locals = locals;
-            set_at_entry = set_at_entry;
-            undone = undone_pending fs operands order t;
-          };
-      phase = phase_of (length order) t;
-    }
+-- ---- heights, read off lists
 
 -- the frames with heights, over so many types that lie below all frames
 abbrev pub with_heights : List Frame → ℕ → List FlatFrame

@@ -1,6 +1,7 @@
 pub mod State
 pub mod Attempts
 pub mod Flat
+pub mod StacksInside
 pub mod Steps
 pub mod Pops
 pub mod Names

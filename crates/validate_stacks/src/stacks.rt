@@ -39,12 +39,11 @@ impl Model for Stacks {
     ghost Value = { Stacked };
 
     ghost use Rattle.validate_stacks.specs.Flat.{stacked_of, IsSound};
+    ghost use Rattle.validate_stacks.specs.StacksInside.{flat_of};
 
-    ghost view = { λ s. stacked_of s.control.items s.operands.items s.inits.order s.transaction s.shared
-        s.features s.locals s.inits.set_at_entry };
+    ghost view = { λ s. stacked_of (flat_of s) };
 
-    ghost invariant = { λ s. IsSound s.control.room s.control.items s.operands.room s.operands.items
-        s.inits.room s.inits.set_at_entry s.inits.order s.transaction s.locals };
+    ghost invariant = { λ s. IsSound (flat_of s) };
 }
 
 impl Stacks {

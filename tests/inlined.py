@@ -11,7 +11,15 @@ from harness import Tally, program_of
 
 PROGRAMS = "opcheck", "script_runs", "wasmcheck"
 # What operators of whole bodies and those of calls pass through, and what else visits do.
-CHOICES = "passes_at_once", "operator_at_once", "any_operator", "memory_passes_at_once", "memory_at_once", "gated_memory"
+CHOICES = (
+    "passes_at_once",
+    "operator_at_once",
+    "any_operator",
+    "memory_passes_at_once",
+    "memory_at_once",
+    "gated_memory",
+    "memory_operator",
+)
 INLINED = CHOICES + (
     "is_accepted",
     "gated_numeric",

@@ -1,13 +1,15 @@
 //! Operators on memories, by shape (WebAssembly core specification, "Memory Instructions").
 #![tactic(auto, using(validate_shapes::proofs::KnownRows::known_rows))]
 
-ghost use Rattle.std.specs.Prelude.{◌≡◌, true};
+ghost use Rattle.std.specs.Prelude.{◌≡◌, true, false, None, IfSome};
 ghost use Rattle.validate_resources.specs.Context.{is_number_or_vector};
 ghost use Rattle.validate_visit.specs.declared.memory.MemArgTarget.{MemArgTarget};
 ghost use Rattle.validation_rules.specs.Access.{load_row, store_row};
+ghost use Rattle.validation_rules.specs.Context.{Context};
 ghost use Rattle.validation_rules.specs.Memories.{memory_size_row, memory_grow_row, memory_init_row, data_drop_row, memory_copy_row, memory_fill_row, memory_discard_row};
 ghost use Rattle.validation_rules.specs.Memory.{memory_row};
 ghost use Rattle.validation_rules.specs.Operators.{row_operator};
+ghost use Rattle.validate_rows.specs.Accesses.{is_load, is_store};
 ghost use Rattle.validate_shapes.specs.Operands.{Finds};
 ghost use Rattle.validate_stacks.specs.Bodies.{MayBegin, Makes};
 
@@ -192,24 +194,51 @@ fn drop_types<A: Refused, R: WasmModuleResources>(
     Ok(Operands::few(Few::Zero, Pushed::Nothing))
 }
 
-/// An operator on memories, its gate aside.
+/// Where a load of a number loads it from, and its type.
 #[inline(always)]
-pub fn memory_operator<A: Refused, R: WasmModuleResources>(
+fn loaded(op: MemoryOp) -> Option<(MemArg, ValType)>
+    ensures row { IfSome result (λ a. (cx : Context) → memory_row cx op ≡ load_row cx a.0 a.1) }
+    ensures number { IfSome result (λ a. is_number_or_vector a.1 ≡ true) }
+    ensures other { result ≡ None → is_load op ≡ false }
+{
+    match op {
+        MemoryOp::Load(ty, memarg) => Some((memarg, number(ty))),
+        MemoryOp::LoadPacked(part, _, memarg) => Some((memarg, packed(part))),
+        _ => None,
+    }
+}
+
+/// Where a store of a number stores it, and its type.
+#[inline(always)]
+fn stored(op: MemoryOp) -> Option<(MemArg, ValType)>
+    ensures row { IfSome result (λ a. (cx : Context) → memory_row cx op ≡ store_row cx a.0 a.1) }
+    ensures number { IfSome result (λ a. is_number_or_vector a.1 ≡ true) }
+    ensures other { result ≡ None → is_store op ≡ false }
+{
+    match op {
+        MemoryOp::Store(ty, memarg) => Some((memarg, number(ty))),
+        MemoryOp::StorePacked(part, memarg) => Some((memarg, packed(part))),
+        _ => None,
+    }
+}
+
+/// An operator on a whole memory, or on a data segment. It is called, so that [`memory_operator`] stays short where it
+/// is inlined.
+#[inline(never)]
+fn whole_operator<A: Refused, R: WasmModuleResources>(
     body: Body<'_, '_, R>,
     op: MemoryOp,
 ) -> Result<(), A>
-    requires { MayBegin R.context body }
+    requires visit { MayBegin R.context body }
+    requires no_load { is_load op ≡ false }
+    requires no_store { is_store op ≡ false }
     ensures { Makes R.context A.tells (λ cx. row_operator (memory_row cx op)) body.entry result body.exit }
 {
     let found = match op {
-        MemoryOp::Load(ty, memarg) => return load(body, memarg, number(ty)),
-        MemoryOp::LoadPacked(part, _, memarg) => {
-            return load(body, memarg, packed(part));
-        }
-        MemoryOp::Store(ty, memarg) => return store(body, memarg, number(ty)),
-        MemoryOp::StorePacked(part, memarg) => {
-            return store(body, memarg, packed(part));
-        }
+        MemoryOp::Load(..)
+        | MemoryOp::LoadPacked(..)
+        | MemoryOp::Store(..)
+        | MemoryOp::StorePacked(..) => unreachable!(),
         MemoryOp::MemorySize(memory) => size_types(&body, memory),
         MemoryOp::MemoryGrow(memory) => grow_types(&body, memory),
         MemoryOp::MemoryInit { data_index, mem } => { init_types(&body, data_index, mem) }
@@ -219,4 +248,22 @@ pub fn memory_operator<A: Refused, R: WasmModuleResources>(
         MemoryOp::MemoryDiscard(memory) => discard_types(&body, memory),
     };
     exchange_found(body, found)
+}
+
+/// An operator on memories, its gate aside.
+#[inline(always)]
+pub fn memory_operator<A: Refused, R: WasmModuleResources>(
+    body: Body<'_, '_, R>,
+    op: MemoryOp,
+) -> Result<(), A>
+    requires { MayBegin R.context body }
+    ensures { Makes R.context A.tells (λ cx. row_operator (memory_row cx op)) body.entry result body.exit }
+{
+    if let Some((memarg, ty)) = loaded(op) {
+        return load(body, memarg, ty);
+    }
+    if let Some((memarg, ty)) = stored(op) {
+        return store(body, memarg, ty);
+    }
+    whole_operator(body, op)
 }

@@ -1,7 +1,7 @@
 use Rattle.std.proofs.Common.{rules}
 use Rattle.validation_rules.specs.Memory.{memory_row}
-use Rattle.validate_rows.proofs.memory.memory_operator.Goals as goal
-use Rattle.validate_rows.proofs.memory.memory_operator.Goals.{in-MemorySize, in-MemoryGrow, in-MemoryInit, in-DataDrop, in-MemoryCopy, in-MemoryFill, in-MemoryDiscard}
+use Rattle.validate_rows.proofs.memory.whole_operator.Goals as goal
+use Rattle.validate_rows.proofs.memory.whole_operator.Goals.{in-MemorySize, in-MemoryGrow, in-MemoryInit, in-DataDrop, in-MemoryCopy, in-MemoryFill, in-MemoryDiscard}
 
 pub returns : goal.returns
 returns g c =

@@ -1,4 +1,5 @@
 pub mod Added
+pub mod Anyhow
 pub mod ExampleItems
 pub mod ExampleModule
 pub mod Examples
@@ -8,5 +9,6 @@ pub mod ImportedMore
 pub mod Listed
 pub mod Named
 pub mod NamedFunctions
+pub mod Pieces
 pub mod SectionsMore
 pub mod WholeParts

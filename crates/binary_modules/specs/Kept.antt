@@ -1,7 +1,12 @@
--- The constant expressions that a reader of a module keeps (the crate's own).
-use Rattle.std.specs.Prelude.{◌≡◌, ℕ, List, ◌++◌, map, flat_map}
+-- The constant expressions that a reader of a module keeps, and operators that it passes over in them (the crate's own).
+use Rattle.std.specs.Prelude.{◌≡◌, ℕ, ℤ, List, ◌++◌, map, flat_map, Some}
+use Rattle.binary_operators.specs.declared.types.CanonicalTypes.{CanonicalTypes}
 use Rattle.module_rules.specs.declared.module.Place.{Place}
-use Rattle.binary_modules.specs.Initializers.{Expression}
+use Rattle.validate_types.specs.declared.heap.HeapType.{HeapType}
+use Rattle.validate_visit.specs.declared.op.NumericOp.TheVariants.{I32Const}
+use Rattle.validate_visit.specs.declared.op.Op.TheVariants.{Numeric, Reference}
+use Rattle.validate_visit.specs.declared.op.ReferenceOp.TheVariants.{RefNull}
+use Rattle.binary_modules.specs.Initializers.{Expression, piece}
 use Rattle.binary_modules.specs.declared.initializers.ConstantExpression.{ConstantExpression}
 use Rattle.binary_modules.specs.declared.initializers.Initializers.{Initializers}
 
@@ -20,3 +25,11 @@ pub record Adds
   pub functions :
       after.functions.items
       ≡ before.functions.items ++ flat_map (λ (e : Place × Expression). e.1.functions) read
+
+-- the bytes begin with an `i32.const`, and these are behind it
+abbrev pub IsInteger : CanonicalTypes → List ℕ → List ℕ → Type 0
+IsInteger types bytes rest = (value : ℤ) × (piece types bytes ≡ Some (Some (Numeric (I32Const value)), rest))
+
+-- the bytes begin with a `ref.null`, and these are behind it
+abbrev pub IsNull : CanonicalTypes → List ℕ → List ℕ → Type 0
+IsNull types bytes rest = (ty : HeapType) × (piece types bytes ≡ Some (Some (Reference (RefNull ty)), rest))

@@ -1,7 +1,8 @@
 -- A number that is mixed from the types of a recursion group. Equal groups have the same. That others mostly have
 -- another is a matter of speed alone: so some parts of types are left out.
-use Rattle.std.specs.Prelude.{ℕ, ◌+◌, ◌*◌, ◌%◌, ◌^◌, List, length, Option, Some, None, if◌then◌else◌}
+use Rattle.std.specs.Prelude.{ℕ, List, length, Option, Some, None, if◌then◌else◌}
 use Rattle.std.specs.List.{fold}
+use Rattle.module_rules.specs.Mixing.{mix}
 use Rattle.validate_types.specs.declared.heap.HeapType.{HeapType}
 use Rattle.validate_types.specs.declared.heap.HeapType.TheVariants.{Abstract, Concrete, Exact}
 use Rattle.validate_types.specs.declared.heap.UnpackedIndex.{UnpackedIndex}
@@ -14,10 +15,6 @@ use Rattle.validate_types.specs.declared.types.StorageType.TheVariants.{I8, I16,
 use Rattle.validate_types.specs.declared.types.SubType.{SubType}
 use Rattle.validate_types.specs.declared.types.ValType.{ValType}
 use Rattle.validate_types.specs.declared.types.ValType.TheVariants.{I32, I64, F32, F64, V128, Ref}
-
--- a word more is mixed into a number
-unfoldable pub mix : ℕ → ℕ → ℕ
-mix mixed word = ((mixed + word) % 2 ^ 64 * 0x9e3779b97f4a7c15) % 2 ^ 64
 
 abbrev pub mix_index : ℕ → UnpackedIndex → ℕ
 mix_index mixed (Module index) = mix (mix mixed 1) index

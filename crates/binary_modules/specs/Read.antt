@@ -1,16 +1,19 @@
 -- What the reader of recursion groups keeps (the crate's own).
-use Rattle.std.specs.Prelude.{◌≡◌, ◌≢◌, ◌⊎◌, ℕ, List, [], ◌∷◌, ◌++◌, map, Option, Some, None, slice_get}
-use Rattle.std.specs.BTreeMap.{get}
+use Rattle.std.specs.Prelude.{◌≡◌, ◌≢◌, ◌⊎◌, ℕ, List, [], ◌∷◌, ◌++◌, map, length, Option, Some, None}
+use Rattle.std.specs.Prelude.{slice_get, unwrap_or, IsSome}
+use Rattle.std.specs.BTreeMap.{get, Updates}
+use Rattle.std.specs.List.{range_with_len}
 use Rattle.std.specs.Option.{option_map}
 use Rattle.std.specs.Ordering.{nat_cmp}
 use Rattle.std.specs.declared.cmp.Ordering.{Ordering}
 use Rattle.binary_operators.specs.Values.{so_many}
 use Rattle.binary_operators.specs.declared.types.CanonicalTypes.{CanonicalTypes}
 use Rattle.binary_operators.specs.declared.types.GroupNames.{GroupNames}
+use Rattle.binary_operators.specs.declared.types.GroupNames.TheVariants.{Places, Indices}
 use Rattle.validate_types.specs.declared.types.SubType.{SubType}
 use Rattle.binary_modules.specs.SubTypes.{sub_type}
 use Rattle.binary_modules.specs.Groups.{Group, types_of, canonical_of, shape, written_shape}
-use Rattle.binary_modules.specs.Groups.{IsGroup}
+use Rattle.binary_modules.specs.Groups.{IsGroup, StandsFor}
 use Rattle.binary_modules.specs.Mixed.{mix_types}
 use Rattle.binary_modules.specs.contracts.mixed.RolledGroupOrd.TheImpl as rolled_ord
 use Rattle.binary_modules.specs.declared.groups.Groups.{Groups}
@@ -25,6 +28,11 @@ pub record HasTypes
   pub are_before : types.canonical.now ≡ canonical
   pub are_own : types.group ≡ names
   pub are_read : so_many (sub_type types) count bytes ≡ Some (read, rest)
+
+-- The bytes begin with this type, however the types of its group are named, where these stand for those before it.
+abbrev pub ReadsAnyhow : List ℕ → List ℕ → SubType → List ℕ → Type 0
+ReadsAnyhow canonical bytes ty rest =
+    (types : CanonicalTypes) → types.canonical.now ≡ canonical → sub_type types bytes ≡ Some (ty, rest)
 
 -- the order of groups, rolled up
 abbrev pub rolled_cmp : RolledGroup → RolledGroup → Ordering
@@ -52,20 +60,38 @@ StandsAlone types groups first =
 -- the group is none of the types that are kept as groups alone
 abbrev pub IsOther : Groups → List SubType → RolledGroup → Type 0
 IsOther kept types rolled =
-    (first : ℕ) → get nat_cmp kept.alone rolled.mixed ≡ Some first
+    (first : ℕ) → get nat_cmp kept.numbers rolled.mixed ≡ Some (Some first)
     → alone_at types first ≢ Some rolled.types.items
 
 -- what is kept says what these groups stand for, where these are the types of the module
 pub record Knows (kept : Groups) (types : List SubType) (groups : List Group) : Type 0 where
-  pub alone : (number first : ℕ) → get nat_cmp kept.alone number ≡ Some first → StandsAlone types groups first
+  pub alone : (number first : ℕ) → get nat_cmp kept.numbers number ≡ Some (Some first)
+      → StandsAlone types groups first
   pub others : (rolled : RolledGroup) → IsMixed rolled → IsOther kept types rolled
       → IsFound groups rolled.types.items (get rolled_cmp kept.others rolled)
+  -- a group whose number isn't kept is equal to none of them
+  pub unkept : (rolled : List SubType) → get nat_cmp kept.numbers (mix_types rolled) ≡ None
+      → IsFound groups rolled None
 
--- a group more is kept, for which this was found, and for whose first type this index stands
-abbrev pub KeepsAs : Groups → Groups → List SubType → RolledGroup → Option ℕ → ℕ → Type 0
-KeepsAs kept after types rolled found first =
-    IsMixed rolled → (groups : List Group) → Knows kept types groups → IsFound groups rolled.types.items found
-    → (g : Group) → g.rolled ≡ rolled.types.items → g.first ≡ first → Knows after types (groups ++ g ∷ [])
+-- at the number stands what stood there, or else this; nothing else changes
+pub record Notes (kept after : Groups) (number : ℕ) (alone : Option ℕ) : Type 0 where
+  pub numbers : Updates nat_cmp kept.numbers after.numbers number
+      (Some (unwrap_or (get nat_cmp kept.numbers number) alone))
+  pub others : after.others ≡ kept.others
+
+-- where a type is kept by the number, another one than this group alone is declared there
+abbrev pub IsUnlike : Groups → List SubType → ℕ → List SubType → Type 0
+IsUnlike kept types number group =
+    (first : ℕ) → get nat_cmp kept.numbers number ≡ Some (Some first)
+    → IsSome (slice_get types first) × (alone_at types first ≢ Some group)
+
+-- This index stands for that of the first type of a group, rolled up, whose own index is that. Where it is kept, these
+-- are the types of the module.
+abbrev pub Keeps : Groups → Groups → List SubType → List SubType → List SubType → ℕ → ℕ → Type 0
+Keeps kept after types more rolled own first =
+    (groups : List Group) → Knows kept types groups
+    → StandsFor groups rolled own first
+    × ((g : Group) → g.rolled ≡ rolled → g.first ≡ first → Knows after more (groups ++ g ∷ []))
 
 -- these are the types of these groups, and what is kept says what they stand for
 pub record HasRead
@@ -74,6 +100,24 @@ pub record HasRead
   pub canonical : section.canonical.items ≡ canonical_of groups
   pub written : map written_shape section.groups.items ≡ map shape groups
   pub known : Knows kept section.types.items groups
+
+-- So many types of a group more were read behind those of these groups: the bytes began with them, and these are behind
+-- them.
+pub record HasReadTypes
+    (before : List Group) (count : ℕ) (bytes rest : List ℕ) (section after : TypeSection)
+    (kept : Groups) : Type 0 where
+  pub rolled : List SubType
+  pub are_rolled : HasTypes section.canonical.items Places count bytes rolled rest
+  pub first : ℕ
+  pub stands : StandsFor before rolled (length section.canonical.items) first
+  pub types : List SubType
+  pub end : List ℕ
+  pub are_declared : HasTypes section.canonical.items (Indices first) count bytes types end
+  pub are_types : after.types.items ≡ section.types.items ++ types
+  pub are_canonical : after.canonical.items ≡ section.canonical.items ++ range_with_len first count
+  pub are_groups : after.groups ≡ section.groups
+  pub known : (g : Group) → g.rolled ≡ rolled → g.first ≡ first
+      → Knows kept after.types.items (before ++ g ∷ [])
 
 -- a group more was read: the bytes began with it, and these are behind it
 pub record HasReadGroup

@@ -1,15 +1,57 @@
 //! Constant expressions (WebAssembly core specification, "Binary Format: Instructions", "Expressions").
 
-ghost use Rattle.std.specs.Prelude.{ℕ, ◌≡◌, ◌+◌, ◌^◌, ◌<◌, ◌≤◌, List, ◌++◌, Option, Some, IfSome, false, IsTrue, IfOk, OnOk, length};
+ghost use Rattle.std.specs.Prelude.{ℕ, ◌≡◌, ◌+◌, ◌^◌, ◌<◌, ◌≤◌, List, ◌++◌, length, Option, Some, IfSome};
+ghost use Rattle.std.specs.Prelude.{true, false, IsTrue, IfOk, OnOk};
 ghost use Rattle.binary_operators.specs.Instructions.{operator};
 ghost use Rattle.binary_operators.specs.declared.types.CanonicalTypes.{CanonicalTypes};
+ghost use Rattle.validate_visit.specs.declared.op.ControlOp.TheVariants.{End};
 ghost use Rattle.validate_visit.specs.declared.op.Op.{Op};
+ghost use Rattle.validate_visit.specs.declared.op.Op.TheVariants.{Control};
 ghost use Rattle.binary_modules.specs.Initializers.{of_operator, piece, depth_behind, named, named_functions, expression};
+ghost use Rattle.binary_modules.specs.Kept.{IsInteger, IsNull};
 
 use binary_operators::{
     BinaryReader, CanonicalTypes, Fault, OperatorLists, ReadError, push, read_operator,
 };
 use validate_visit::{ControlOp, ExceptionOp, Op, ReferenceOp};
+
+/// Reads an `end`, if the next operator is one.
+fn read_end(reader: &mut BinaryReader<'_>) -> Result<bool, ReadError>
+    ensures end { IfOk result (λ is_end. IsTrue is_end → (types : CanonicalTypes)
+        → piece types reader.old.left ≡ Some (Some (Control End), reader.new.left)) }
+    ensures passed { IfOk result (λ is_end. is_end ≡ false → reader.new ≡ reader.old) }
+{
+    reader.read_if(0x0b)
+}
+
+/// Reads an `i32.const`, if the next operator is one.
+#[tactic(auto, using(crate::proofs::Pieces::integer_piece))]
+fn read_integer(reader: &mut BinaryReader<'_>) -> Result<bool, ReadError>
+    ensures integer { IfOk result (λ is_integer. IsTrue is_integer → (types : CanonicalTypes)
+        → IsInteger types reader.old.left reader.new.left) }
+    ensures passed { IfOk result (λ is_integer. is_integer ≡ false → reader.new ≡ reader.old) }
+{
+    if !reader.read_if(0x41)? {
+        return Ok(false);
+    }
+    let _value = reader.read_var_i32()?;
+    Ok(true)
+}
+
+/// Reads a `ref.null` of an abstract type that isn't shared, if the next operator is one, and answers whether it is.
+fn read_null(reader: &mut BinaryReader<'_>) -> bool
+    ensures null { result ≡ true → (types : CanonicalTypes) → IsNull types reader.old.left reader.new.left }
+    ensures passed { result ≡ false → reader.new ≡ reader.old }
+{
+    let Some((code, ty)) = reader.next_two() else {
+        return false;
+    };
+    if code != 0xd0 || ty < 0x68 || ty > 0x75 {
+        return false;
+    }
+    *reader = reader.behind(2);
+    true
+}
 
 /// Reads a constant of the vector type, if the next operator is one. It refuses other vector operators.
 #[tactic(auto, unfolding(crate::specs::Initializers::piece, crate::specs::Initializers::vector_constant))]
@@ -58,9 +100,9 @@ fn note_function(op: Op<'_>, functions: &mut Vec<u32>) -> Result<(), ReadError>
     }
 }
 
-/// Reads an operator of a constant expression in which so many parts are open, or a vector constant, and notes the
+/// Reads any operator of a constant expression in which so many parts are open, or a vector constant, and notes the
 /// function that it names. It answers how many are open behind it, or None where it ends the expression.
-fn read_piece(
+fn read_any_piece(
     reader: &mut BinaryReader<'_>,
     canonical: CanonicalTypes<'_>,
     lists: &mut OperatorLists,
@@ -80,6 +122,33 @@ fn read_piece(
     let op = read_operator(reader, canonical, lists)?;
     note_function(op, functions)?;
     Ok(depth_behind(depth, op))
+}
+
+/// [`read_any_piece`]. Of those that most expressions are made of no operator is made.
+fn read_piece(
+    reader: &mut BinaryReader<'_>,
+    canonical: CanonicalTypes<'_>,
+    lists: &mut OperatorLists,
+    functions: &mut Vec<u32>,
+    depth: usize,
+) -> Result<Option<usize>, ReadError>
+    requires { depth + 1 < 2 ^ 64 }
+    ensures below { IfOk result (λ behind. IfSome behind (λ b. b ≤ depth + 1)) }
+    ensures read { IfOk result (λ behind. (op : Option Op)
+        × (piece canonical.entry reader.old.left ≡ Some (op, reader.new.left))
+        × (behind ≡ depth_behind depth op)
+        × (functions.new.items ≡ functions.old.items ++ named op)) }
+{
+    if read_end(reader)? {
+        return Ok(depth_behind(depth, Op::Control(ControlOp::End)));
+    }
+    if read_integer(reader)? {
+        return Ok(Some(depth));
+    }
+    if read_null(reader) {
+        return Ok(Some(depth));
+    }
+    read_any_piece(reader, canonical, lists, functions, depth)
 }
 
 /// Reads the operators of a constant expression, and notes the functions that they name.

@@ -2,22 +2,24 @@
 //!
 //! The lookup over lists gives each declared type an id of its own. So equal types are given one index
 //! here, that of the first of them: whatever names a type is read through a list that says which stands for
-//! it. Each group is read twice: first rolled up, to be compared, and then as it is declared.
+//! it. A group is read twice, first rolled up, to be compared, and then as it is declared; but a type that is a group
+//! alone, and names none of its own group, is the same both ways, and is read once.
 
-ghost use Rattle.std.specs.Prelude.{◌≡◌, ◌≢◌, true, false, List, [], ◌++◌, Some, None, IfOk, IfSome, OnOk, unwrap_or};
-ghost use Rattle.std.specs.BTreeMap.{get};
+ghost use Rattle.std.specs.Prelude.{ℕ, ◌≡◌, ◌≢◌, true, false, List, [], ◌++◌, length, slice_get, Some, None};
+ghost use Rattle.std.specs.Prelude.{IfOk, IfSome, OnOk, IsSome, unwrap_or};
+ghost use Rattle.std.specs.BTreeMap.{get, Updates};
 ghost use Rattle.std.specs.List.{range_with_len};
 ghost use Rattle.std.specs.Ordering.{nat_cmp};
 ghost use Rattle.binary_operators.specs.declared.types.GroupNames.TheVariants.{Places, Indices};
 ghost use Rattle.validate_types.specs.declared.types.SubType.{SubType};
 ghost use Rattle.binary_modules.specs.Groups.{Group, group_count, AreTypes};
-ghost use Rattle.binary_modules.specs.Read.{HasTypes, IsMixed, IsFound, IsOther, Knows, KeepsAs, HasRead, HasReadGroup};
-ghost use Rattle.binary_modules.specs.Read.{alone_at};
+ghost use Rattle.binary_modules.specs.Read.{HasTypes, ReadsAnyhow, IsMixed, IsUnlike, Notes, Keeps, Knows};
+ghost use Rattle.binary_modules.specs.Read.{alone_at, rolled_cmp, HasRead, HasReadTypes, HasReadGroup};
 
 use crate::lists::{list_for, make_room, read_so_many};
-use crate::mixed::RolledGroup;
-use crate::subtypes::read_mark;
-use binary_operators::{BinaryReader, CanonicalTypes, Fault, GroupNames, ReadError, push};
+use crate::mixed::{RolledGroup, mix_types};
+use crate::subtypes::{read_mark, read_sub_type};
+use binary_operators::{BinaryReader, CanonicalTypes, Cause, Fault, GroupNames, ReadError, push};
 use module_rules::RecGroup;
 use std::alloc::Global;
 use std::collections::BTreeMap;
@@ -27,20 +29,23 @@ use validate_types::SubType;
 /// The recursion groups that differ.
 #[derive(Drop)]
 struct Groups {
-    /// The indices of types that are a group alone and are declared as they are rolled up, by the numbers that are
-    /// mixed from them: one at most for a number. Their types aren't kept once more.
-    alone: BTreeMap<u64, u32>,
+    /// Of each number that is mixed from a group: the index of the type from which it was first, if that is a group
+    /// alone and is declared as it is rolled up. It isn't kept once more. None stands at a number whose groups are
+    /// all among the others.
+    numbers: BTreeMap<u64, Option<u32>>,
     /// Of each other group, rolled up, the index of its first type.
     others: BTreeMap<RolledGroup, u32>,
 }
 
-/// Whether the group, rolled up, is the type at the index alone.
-fn is_alone(types: &[SubType], index: u32, group: &RolledGroup) -> bool
-    ensures yes { result ≡ true → alone_at types.now index ≡ Some group.now.types.items }
-    ensures no { result ≡ false → alone_at types.now index ≢ Some group.now.types.items }
+/// Whether a type stands at the index that isn't the group alone.
+fn is_another(types: &[SubType], index: u32, group: &[SubType]) -> bool
+    ensures there { result ≡ true → IsSome (slice_get types.now index) }
+    ensures yes { result ≡ true → alone_at types.now index ≢ Some group.now }
+    ensures no { result ≡ false → IsSome (slice_get types.now index)
+        → alone_at types.now index ≡ Some group.now }
 {
     match types.get(index as usize) {
-        Some(ty) => group.types.as_slice() == slice::from_ref(ty),
+        Some(ty) => group != slice::from_ref(ty),
         None => false,
     }
 }
@@ -51,79 +56,66 @@ impl Groups {
         ensures { (types : List SubType) → Knows result types [] }
     {
         Groups {
-            alone: BTreeMap::new(alloc),
+            numbers: BTreeMap::new(alloc),
             others: BTreeMap::new(alloc),
         }
     }
 
-    /// The index of the type that the group is alone, if it is one of those.
-    fn find_alone(&self, types: &[SubType], group: &RolledGroup) -> Option<u32>
-        ensures found { IfSome result (λ first. get nat_cmp self.now.alone group.now.mixed ≡ Some first) }
-        ensures same { IfSome result (λ first. alone_at types.now first ≡ Some group.now.types.items) }
-        ensures other { result ≡ None → IsOther self.now types.now group.now }
+    /// What stands at a number: what stood there, or else this. It refuses want of memory.
+    fn note(&mut self, number: u64, alone: Option<u32>) -> Result<Option<u32>, ReadError>
+        ensures stands { IfOk result (λ first. first ≡ unwrap_or (get nat_cmp self.old.numbers number) alone) }
+        ensures noted { OnOk result (Notes self.old self.new number alone) }
     {
-        let first = *self.alone.get(&group.mixed)?;
-        if is_alone(types, first, group) {
-            Some(first)
-        } else {
-            None
-        }
+        let first = self.numbers.entry(number)?.or_insert(alone);
+        Ok(*first)
     }
 
-    /// The index that stands for that of the first type of the group, if an earlier group is equal. These are the types
-    /// of the module.
-    fn find(&self, types: &[SubType], group: &RolledGroup) -> Option<u32>
-        ensures { IsMixed group.now → (groups : List Group) → Knows self.now types.now groups
-            → IsFound groups group.now.types.items result }
-    {
-        match self.find_alone(types, group) {
-            Some(first) => Some(first),
-            None => self.others.get(group).copied(),
-        }
-    }
-
-    /// Whether the group is the type at the index alone, and no group has its number.
-    fn may_stand_alone(&self, types: &[SubType], group: &RolledGroup, first: u32) -> bool
-        ensures free { result ≡ true → get nat_cmp self.now.alone group.now.mixed ≡ None }
-        ensures alone { result ≡ true → alone_at types.now first ≡ Some group.now.types.items }
-    {
-        match self.alone.get(&group.mixed) {
-            Some(_) => false,
-            None => is_alone(types, first, group),
-        }
-    }
-
-    /// Keeps a group that is equal to none before it, and whose first type has this index. It refuses want of memory.
-    fn keep_new(
+    /// The index that stands at the number of a group, if the type at it is the group alone, or isn't declared yet. If
+    /// nothing stands there, this is put there. It refuses want of memory.
+    fn find_alone(
         &mut self,
         types: &[SubType],
-        group: RolledGroup,
-        first: u32,
-    ) -> Result<(), ReadError>
-        ensures { OnOk result (KeepsAs self.old self.new types.now group None first) }
+        group: &[SubType],
+        number: u64,
+        alone: Option<u32>,
+    ) -> Result<Option<u32>, ReadError>
+        ensures noted { OnOk result (Notes self.old self.new number alone) }
+        ensures stands { IfOk result (λ found. IfSome found (λ first.
+            get nat_cmp self.new.numbers number ≡ Some (Some first))) }
+        ensures same { IfOk result (λ found. IfSome found (λ first. IsSome (slice_get types.now first)
+            → alone_at types.now first ≡ Some group.now)) }
+        ensures other { IfOk result (λ found. found ≡ None → IsUnlike self.new types.now number group.now) }
     {
-        if self.may_stand_alone(types, &group, first) {
-            self.alone.insert(group.mixed, first)?;
-            return Ok(());
+        let Some(first) = self.note(number, alone)? else {
+            return Ok(None);
+        };
+        if is_another(types, first, group) {
+            return Ok(None);
         }
-        self.others.insert(group, first)?;
-        Ok(())
+        Ok(Some(first))
     }
 
-    /// Keeps a group if it is equal to none before it, so that no index was found for it. Its first type has this index
-    /// of its own. It refuses want of memory.
-    fn keep(
-        &mut self,
-        types: &[SubType],
-        group: RolledGroup,
-        found: Option<u32>,
-        own: u32,
-    ) -> Result<(), ReadError>
-        ensures { OnOk result (KeepsAs self.old self.new types.now group found (unwrap_or found own)) }
+    /// The index that stands for a group among the others: that of the first that is equal, or else this one, by
+    /// which it is kept. It refuses want of memory.
+    fn find_other(&mut self, group: RolledGroup, own: u32) -> Result<u32, ReadError>
+        ensures first { IfOk result (λ first. first ≡ unwrap_or (get rolled_cmp self.old.others group) own) }
+        ensures kept { IfOk result (λ first. Updates rolled_cmp self.old.others self.new.others group (Some first)) }
+        ensures numbers { self.new.numbers ≡ self.old.numbers }
     {
+        let first = self.others.entry(group)?.or_insert(own);
+        Ok(*first)
+    }
+
+    /// The index that stands for that of the first type of a group: that of the first group that is equal, or its
+    /// own, by which it is kept. These are the types of the module. It refuses want of memory.
+    fn find(&mut self, types: &[SubType], group: RolledGroup, own: u32) -> Result<u32, ReadError>
+        ensures { IfOk result (λ first. IsMixed group
+            → Keeps self.old self.new types.now types.now group.types.items own first) }
+    {
+        let found = self.find_alone(types, group.types.as_slice(), group.mixed, None)?;
         match found {
-            Some(_) => Ok(()),
-            None => self.keep_new(types, group, own),
+            Some(first) => Ok(first),
+            None => self.find_other(group, own),
         }
     }
 }
@@ -225,6 +217,80 @@ impl TypeSection {
             .count()
     }
 
+    /// Declares a type that is a group alone, and names none of its own group, behind those that are there. Its own
+    /// index is this one. Where another group has its number, it is kept among the others, and read again. It refuses
+    /// want of memory.
+    fn declare_alone(
+        &mut self,
+        alloc: Global,
+        again: &mut BinaryReader<'_>,
+        ty: SubType,
+        own: u32,
+        groups: &mut Groups,
+    ) -> Result<(), ReadError>
+        ensures { OnOk result ((before : List Group) (rest : List ℕ) → HasRead self.old groups.old before
+            → own ≡ length self.old.canonical.items
+            → ReadsAnyhow self.old.canonical.items again.old.left ty rest
+            → HasReadTypes before 1 again.old.left rest self.old self.new groups.new) }
+    {
+        let number = mix_types(slice::from_ref(&ty));
+        let found = groups.find_alone(&self.types, slice::from_ref(&ty), number, Some(own))?;
+        match found {
+            Some(first) => {
+                push(&mut self.types, ty)?;
+                push(&mut self.canonical, first)
+            }
+            None => {
+                let group = RolledGroup::of_one(alloc, ty)?;
+                let first = groups.find_other(group, own)?;
+                self.declare(alloc, again, first, 1)
+            }
+        }
+    }
+
+    /// Reads the types of any group, so many, behind those that are there: first rolled up, and then as they are declared.
+    /// The index of the first is this one. It refuses what the reads of the types refuse, and want of memory.
+    fn declare_group(
+        &mut self,
+        alloc: Global,
+        reader: &mut BinaryReader<'_>,
+        own: u32,
+        count: u32,
+        groups: &mut Groups,
+    ) -> Result<(), ReadError>
+        ensures { OnOk result ((before : List Group) → HasRead self.old groups.old before
+            → own ≡ length self.old.canonical.items
+            → HasReadTypes before count reader.old.left reader.new.left self.old self.new groups.new) }
+    {
+        let mut again = reader.duplicate();
+        let rolled = read_rolled(alloc, reader, &self.canonical, count)?;
+        let group = RolledGroup::new(rolled);
+        let first = groups.find(&self.types, group, own)?;
+        self.declare(alloc, &mut again, first, count)
+    }
+
+    /// Reads the types of a group, so many, behind those that are there. The index of the first is this one. It refuses
+    /// what the reads of the types refuse, and want of memory.
+    fn declare_types(
+        &mut self,
+        alloc: Global,
+        reader: &mut BinaryReader<'_>,
+        own: u32,
+        count: u32,
+        groups: &mut Groups,
+    ) -> Result<(), ReadError>
+        ensures { OnOk result ((before : List Group) → HasRead self.old groups.old before
+            → own ≡ length self.old.canonical.items
+            → HasReadTypes before count reader.old.left reader.new.left self.old self.new groups.new) }
+    {
+        let mut again = reader.duplicate();
+        let alone = read_alone(alloc, reader, &self.canonical, count)?;
+        match alone {
+            Some(ty) => self.declare_alone(alloc, &mut again, ty, own, groups),
+            None => self.declare_group(alloc, reader, own, count, groups),
+        }
+    }
+
     /// Reads a group behind those that were read. It refuses what the reads of its types refuse, and want of memory.
     fn read_group(
         &mut self,
@@ -236,17 +302,12 @@ impl TypeSection {
             → HasReadGroup before reader.old.left reader.new.left self.new groups.new) }
     {
         let offset = reader.offset();
-        let Ok(first) = u32::try_from(self.canonical.len()) else {
+        let Ok(own) = u32::try_from(self.canonical.len()) else {
             return Err(ReadError::malformed(Fault::TypeIndexTooLarge, offset));
         };
         let explicit = read_mark(reader, 0x4e)?;
         let count = read_count(reader, explicit)?;
-        let mut again = reader.duplicate();
-        let rolled = read_rolled(alloc, reader, &self.canonical, count)?;
-        let group = RolledGroup::new(rolled);
-        let found = groups.find(&self.types, &group);
-        self.declare(alloc, &mut again, found.unwrap_or(first), count)?;
-        groups.keep(&self.types, group, found, first)?;
+        self.declare_types(alloc, reader, own, count, groups)?;
         push(
             &mut self.groups,
             RecGroup {
@@ -256,6 +317,37 @@ impl TypeSection {
             },
         )?;
         Ok(())
+    }
+}
+
+/// Reads a type that is a group alone, where a group has so many, and names none of its own group. Other groups aren't
+/// read. It refuses want of memory.
+fn read_alone(
+    alloc: Global,
+    reader: &mut BinaryReader<'_>,
+    canonical: &[u32],
+    count: u32,
+) -> Result<Option<SubType>, ReadError>
+    ensures read { IfOk result (λ found. IfSome found (λ ty. ReadsAnyhow canonical.now reader.old.left ty
+        reader.new.left)) }
+    ensures one { IfOk result (λ found. IsSome found → count ≡ 1) }
+    ensures unread { IfOk result (λ found. found ≡ None → reader.new ≡ reader.old) }
+{
+    if count != 1 {
+        return Ok(None);
+    }
+    // By no such index a type can be named.
+    let names = CanonicalTypes::in_group(canonical, GroupNames::Indices(u32::MAX));
+    let mut ahead = reader.duplicate();
+    match read_sub_type(alloc, &mut ahead, names) {
+        Ok(ty) => {
+            *reader = ahead;
+            Ok(Some(ty))
+        }
+        Err(error) => match error.cause {
+            Cause::OutOfMemory => Err(error),
+            _ => Ok(None),
+        },
     }
 }
 

@@ -1,11 +1,13 @@
 //! A recursion group behind a number that is mixed from its types. Groups are looked for by it: only where numbers are
 //! equal does a search look at types.
 
-ghost use Rattle.std.specs.Prelude.{◌≡◌, if◌then◌else◌, length};
-ghost use Rattle.std.specs.List.{fold};
-ghost use Rattle.binary_modules.specs.Mixed.{mix, mix_index, mix_heap, mix_value, mix_values, mix_field};
+ghost use Rattle.std.specs.Prelude.{◌≡◌, [], ◌∷◌, IfOk};
+ghost use Rattle.binary_modules.specs.Mixed.{mix_index, mix_heap, mix_value, mix_values, mix_field};
 ghost use Rattle.binary_modules.specs.Mixed.{mix_fields, mix_inner, mix_above, mix_type, mix_types};
 
+use binary_operators::{ReadError, push};
+use module_rules::mix;
+use std::alloc::Global;
 use validate_types::{
     CompositeInnerType, FieldType, HeapType, PackedIndex, StorageType, SubType, UnpackedIndex,
     ValType,
@@ -31,17 +33,16 @@ impl RolledGroup {
             types,
         }
     }
-}
 
-/// What each sum is multiplied by. It is odd, so that no two sums become equal.
-const FACTOR: u64 = 0x9e37_79b9_7f4a_7c15;
-
-/// Mixes a word more into a number.
-#[tactic(auto, unfolding(crate::specs::Mixed::mix))]
-fn mix(mixed: u64, word: u64) -> u64
-    ensures { result ≡ mix mixed word }
-{
-    mixed.wrapping_add(word).wrapping_mul(FACTOR)
+    /// A group of this type alone. It refuses want of memory.
+    pub(crate) fn of_one(alloc: Global, ty: SubType) -> Result<RolledGroup, ReadError>
+        ensures types { IfOk result (λ group. group.types.items ≡ ty ∷ []) }
+        ensures mixed { IfOk result (λ group. group.mixed ≡ mix_types (ty ∷ [])) }
+    {
+        let mut types = Vec::new(alloc);
+        push(&mut types, ty)?;
+        Ok(RolledGroup::new(types))
+    }
 }
 
 fn mix_index(mixed: u64, index: UnpackedIndex) -> u64
@@ -142,7 +143,7 @@ fn mix_type(mixed: u64, ty: &SubType) -> u64
 
 /// The number that is mixed from the types of a group.
 #[tactic(auto, unfolding(crate::specs::Mixed::mix_types))]
-fn mix_types(types: &[SubType]) -> u64
+pub(crate) fn mix_types(types: &[SubType]) -> u64
     ensures { result ≡ mix_types types.now }
 {
     let mut mixed = 0;

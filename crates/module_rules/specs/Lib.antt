@@ -10,6 +10,7 @@ pub mod Memories
 pub mod Globals
 pub mod Functions
 pub mod Exports
+pub mod Mixing
 pub mod Names
 pub mod Segments
 pub mod Constants

@@ -17,6 +17,7 @@ pub mod limits;
 mod lookup;
 mod matching;
 mod memories;
+mod mixing;
 mod module;
 mod names;
 mod segments;
@@ -33,6 +34,7 @@ pub use crate::items::{
     DeclaredFunction, DeclaredGlobal, DeclaredMemory, DeclaredTable, DeclaredTag, Export,
     ExternalKind, Limits, RecGroup, Start, TableInit,
 };
+pub use crate::mixing::mix;
 pub use crate::module::{DeclaredModule, Imports, Place};
 pub use crate::segments::{
     Data, DataCount, DataKind, Element, ElementItems, ElementKind, FunctionItems,

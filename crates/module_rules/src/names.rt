@@ -3,9 +3,10 @@
 ghost use Rattle.std.specs.Prelude.{◌≡◌, true, false, map, IfErr, OnOk};
 ghost use Rattle.module_rules.specs.Exported.{Exported};
 ghost use Rattle.module_rules.specs.Exports.{are_distinct};
-ghost use Rattle.module_rules.specs.Names.{mix, mix_name};
+ghost use Rattle.module_rules.specs.Names.{mix_name};
 
 use crate::items::Export;
+use crate::mixing::mix;
 use std::alloc::Global;
 use std::collections::BTreeSet;
 use validate_types::Error;
@@ -19,24 +20,13 @@ fn duplicate(alloc: Global, export: &Export) -> Error {
     )
 }
 
-/// What each sum is multiplied by. It is odd, so that no two sums become equal.
-const FACTOR: u64 = 0x9e37_79b9_7f4a_7c15;
-
-/// Mixes a byte more into a number.
-#[tactic(auto, unfolding(crate::specs::Names::mix))]
-fn mix(mixed: u64, byte: u8) -> u64
-    ensures { result ≡ mix mixed byte }
-{
-    mixed.wrapping_add(u64::from(byte)).wrapping_mul(FACTOR)
-}
-
 /// The number that is mixed from a name.
 fn mix_name(name: &str) -> u64
     ensures { result ≡ mix_name name.now }
 {
     let mut mixed = 0;
     for byte in name.as_bytes() {
-        mixed = mix(mixed, *byte);
+        mixed = mix(mixed, u64::from(*byte));
     }
     mixed
 }

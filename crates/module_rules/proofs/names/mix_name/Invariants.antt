@@ -1,7 +1,7 @@
 -- So many bytes are mixed in.
 use Rattle.std.proofs.Common.{◌≡◌, take}
 use Rattle.std.specs.List.{fold}
-use Rattle.module_rules.specs.Names.{mix}
+use Rattle.module_rules.specs.Mixing.{mix}
 use Rattle.module_rules.proofs.names.mix_name.Given as goal
 
 abbrev pub invariant-loop-byte : goal.invariant-loop-byte

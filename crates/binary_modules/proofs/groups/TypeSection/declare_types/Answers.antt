@@ -1,0 +1,24 @@
+-- The types are those of one type alone, or of any group.
+use Rattle.std.proofs.Common.{rules, ap, subst, subst₂, sym, ◌∙◌, ◌≡◌, ℕ, List}
+use Rattle.std.proofs.lemmas.Result.{on_ok_weaker}
+use Rattle.binary_operators.specs.Unread.{Unread}
+use Rattle.binary_modules.specs.Read.{HasReadTypes, ReadsAnyhow}
+use Rattle.binary_modules.proofs.groups.TypeSection.declare_types.Goals as goal
+
+pub returns-in-Some : goal.returns-in-Some
+returns-in-Some c =
+    on_ok_weaker c.declare_alone.result (λ h before read own. (
+    let one : c.args.count ≡ 1 = search rules in
+    let rest = c.read_alone.new.reader.left in
+    let again : c.duplicate-again.result.left ≡ c.args.reader.now.left = ap (λ (r : Unread). r.left) c.duplicate-again.ensures in
+    let C : ℕ → List ℕ → Type 0 = λ n bytes. HasReadTypes before n bytes rest c.args.self.now c.declare_alone.new.self c.declare_alone.new.groups in
+    let R : List ℕ → List ℕ → Type 0 = λ canonical bytes. ReadsAnyhow canonical bytes c.in-Some.ty rest in
+    let alone : R c.deref.result.now c.args.reader.now.left = search rules in
+    subst₂ C (sym one) again (h before rest read own (subst₂ R c.deref.ensures.value (sym again) alone)))) c.declare_alone.ensures
+
+pub returns-in-None : goal.returns-in-None
+returns-in-None c =
+    let same : c.read_alone.new.reader ≡ c.args.reader.now = c.in_ok-alone.ensures.unread c.in-None.is in
+    on_ok_weaker c.declare_group.result (λ h before read own. (
+    let C : Unread → Type 0 = λ r. HasReadTypes before c.args.count r.left c.declare_group.new.reader.left c.args.self.now c.declare_group.new.self c.declare_group.new.groups in
+    subst C same (h before read own))) c.declare_group.ensures

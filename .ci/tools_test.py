@@ -213,6 +213,17 @@ class Verdicts(OfACrate):
             self.assertEqual((lines, failed), (["counts/proved: NOT REFUSED", "counts/refused: refused: at once"], 1))
         self.assertEqual(tried, [["proved", "refused"], ["proved"]])
 
+    def test_an_edit_that_cannot_be_tried_fails_and_the_others_go_on(self):
+        (self.folder / "wrong-bodies").mkdir()
+        for name, old in (("refused", "    n + n"), ("gone", "    n - n")):
+            text = f"file: src/lib.rt\nold: {old}\nnew:     n\nbreaks: twice\n"
+            (self.folder / f"wrong-bodies/{name}.edit").write_text(text)
+        wrong_bodies = tool("wrong-bodies")
+        wrong_bodies.try_bodies = lambda _, __, bodies: {it.name: trials.Verdict("refused", True) for it in bodies}
+        lines, failed = wrong_bodies.tell_bodies("counts", self.USES, ["wrong-bodies"], "sum")
+        said = "NOT READ: counts/gone: its text stands 0 times in src/lib.rt"
+        self.assertEqual((lines, failed), ([f"counts/gone: {said}", "counts/refused: refused"], 1))
+
 
 class Graph(unittest.TestCase):
     USES = {"low": ["bitflags"], "middle": ["low"], "high": ["middle", "low", "core"]}

@@ -249,6 +249,19 @@ static void try_locals(void) {
     tansyattic_free_function(&function);
 }
 
+/* Bytes that end in a section: what is put behind them to read what they declare isn't told of. Here that is the length of
+   121 bodies, whose first byte is the prefix of vector operators. */
+static void try_cut(void) {
+    static const uint8_t head[] = {0, 'a', 's', 'm', 1, 0, 0, 0, 1, 4, 1, 0x60, 0, 0, 3, 122, 121};
+    static const uint8_t tail[] = {6, 10, 1, 0x7f, 0};
+    uint8_t bytes[sizeof head + 121 + sizeof tail] = {0};
+    struct tansyattic_module module = TANSYATTIC_NONE;
+    memcpy(bytes, head, sizeof head);
+    memcpy(bytes + sizeof head + 121, tail, sizeof tail);
+    EXPECT(tansyattic_declare(bytes, sizeof bytes, TANSYATTIC_FEATURES_ALL, &module, TOLD) == TANSYATTIC_MALFORMED);
+    EXPECT(has_text("unexpected end") && verdict.offset == sizeof bytes && module.at == NULL);
+}
+
 /* A body of a module, with its locals; and names. */
 static void try_bodies(void) {
     struct tansyattic_module module = TANSYATTIC_NONE;
@@ -286,6 +299,7 @@ int main(void) {
     try_failed();
     try_locals();
     try_bodies();
+    try_cut();
     printf("%ld expectations of functions, %ld unmet\n", expectations, unmet);
     return unmet != 0 || expectations == 0;
 }

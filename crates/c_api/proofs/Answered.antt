@@ -1,12 +1,12 @@
 -- What a status says of an answer.
 use Rattle.std.proofs.Common.{◌≡◌, ◌≢◌, ◌≤◌, ℕ, List, Result, Ok, Err, IfOk, IfErr, OnOk, OnErr, inl, inr, ap, ◌∙◌, sym, refl, subst, arith}
 use Rattle.std.specs.Prelude.{◌⊎◌, MatchResult}
-use Rattle.module_check.specs.Verdicts.{status_of}
+use Rattle.module_check.specs.Verdicts.{status_of, IsCovered}
 use Rattle.module_check.specs.declared.verdict.Verdict.{Verdict}
 use Rattle.module_check.specs.declared.verdict.Verdict.TheVariants.{Accepted, Refused, Malformed, NotCovered, OutOfMemory}
 use Rattle.validate_func.specs.Functions.{Fails}
 use Rattle.c_api.specs.FunctionCalls.{OpAnswer}
-use Rattle.c_api.specs.Functions.{InProgress, Takes, CannotTake}
+use Rattle.c_api.specs.Functions.{InProgress, Takes, CannotTake, IsUncoveredOperator}
 use Rattle.c_api.specs.declared.on_refusal.OnRefusal.{OnRefusal}
 use Rattle.c_api.specs.declared.on_refusal.OnRefusal.TheVariants.{Fail, LeaveNoTrace}
 
@@ -17,6 +17,14 @@ not_accepted (Refused e) h z = omega (arith, z)
 not_accepted (Malformed e) h z = omega (arith, z)
 not_accepted (NotCovered at) h z = omega (arith, z)
 not_accepted OutOfMemory h z = omega (arith, z)
+
+-- that of one that isn't of what isn't covered
+pub covered : (v : Verdict) → IsCovered v → status_of v ≡ 4 → ⊥
+covered (NotCovered at) h z = h at refl
+covered Accepted h z = omega (arith, z)
+covered (Refused e) h z = omega (arith, z)
+covered (Malformed e) h z = omega (arith, z)
+covered OutOfMemory h z = omega (arith, z)
 
 at_most_four : (v : Verdict) → status_of v ≤ 4
 at_most_four Accepted = omega arith
@@ -78,6 +86,7 @@ module _ (on_refusal : OnRefusal) (bytes : List ℕ) (offset n s : ℕ) (f g : I
     refused = λ d. absurd (not_zero s z d);
     failed = λ _ d. absurd (not_other s 0 z (λ e. omega (arith, e)) (λ e. omega (arith, e)) (λ e. omega (arith, e)) d);
     uncovered = λ d. absurd (omega (arith, z, d));
+    unchanged = λ d. absurd (omega (arith, z, d));
     back = λ _ d. absurd (d z);
     none_taken = λ d. absurd (d z);
     known = omega (arith, z);
@@ -85,12 +94,13 @@ module _ (on_refusal : OnRefusal) (bytes : List ℕ) (offset n s : ℕ) (f g : I
 
   module _ (r : Result ℕ Verdict) (t : Tells r s n 0) (taken : IfOk r (λ count. Takes bytes offset count f g)) (refuses : IfErr r (λ v. v ≢ Accepted)) (cannot : IfErr r (λ v. v ≢ OutOfMemory → CannotTake bytes f)) where
     -- what a call of `op` answers
-    pub op_answer : (on_refusal ≡ Fail → IfErr r (λ v. ((at : ℕ) → v ≢ NotCovered at) → Fails f g)) → IfErr r (λ v. (at : ℕ) → v ≡ NotCovered at → g ≡ f) → (on_refusal ≡ LeaveNoTrace → OnErr r (g ≡ f)) → OpAnswer on_refusal bytes offset n s f g
-    op_answer fails same takes_back = record {
+    pub op_answer : (on_refusal ≡ Fail → IfErr r (λ v. ((at : ℕ) → v ≢ NotCovered at) → Fails f g)) → IfErr r (λ v. (at : ℕ) → v ≡ NotCovered at → IsUncoveredOperator bytes f) → IfErr r (λ v. (at : ℕ) → v ≡ NotCovered at → g ≡ f) → (on_refusal ≡ LeaveNoTrace → OnErr r (g ≡ f)) → OpAnswer on_refusal bytes offset n s f g
+    op_answer fails vector same takes_back = record {
       accepted = accepted r s n 0 (λ count. Takes bytes offset count f g) t taken refuses;
       refused = refused r s n 0 (CannotTake bytes f) t cannot;
       failed = λ is. failed r s n 0 (Fails f g) t (fails is);
-      uncovered = uncovered r s n 0 (g ≡ f) t same;
+      uncovered = uncovered r s n 0 (IsUncoveredOperator bytes f) t vector;
+      unchanged = uncovered r s n 0 (g ≡ f) t same;
       back = λ is. back r s n 0 (g ≡ f) t (takes_back is);
       none_taken = none_taken r s n 0 t;
       known = known r s n 0 t;

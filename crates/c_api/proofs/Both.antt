@@ -3,7 +3,7 @@ use Rattle.std.proofs.Common.{◌≡◌, ◌≢◌, ◌≤◌, ℕ, List, None, 
 use Rattle.std.specs.Prelude.{◌⊎◌, ◌↔◌}
 use Rattle.validate_func.specs.Functions.{Fails}
 use Rattle.c_api.specs.FunctionCalls.{OnFunction, OfBoth, Becomes, HasNoFunction, OpAnswer, HandleAnswer}
-use Rattle.c_api.specs.Functions.{InProgress, Takes, CannotTake}
+use Rattle.c_api.specs.Functions.{InProgress, Takes, CannotTake, IsUncoveredOperator}
 use Rattle.c_api.specs.Handle.{MaybeKept}
 use Rattle.c_api.specs.declared.kept.Kept.{Kept}
 use Rattle.c_api.specs.declared.kept.Kept.TheVariants.{Module, Function}
@@ -60,13 +60,17 @@ module _ {on_refusal : OnRefusal} {bytes : List ℕ} {offset taken s : ℕ} {o p
   refused d =
       before Told o p (CannotTake bytes) x.of_function (λ h. elim d [ inl e ↦ omega (arith, e, (x.of_none h).0) | inr e ↦ omega (arith, e, (x.of_none h).0) ]) (λ f g a. a.refused d)
 
+  pub uncovered : s ≡ 4 → OnFunction o (IsUncoveredOperator bytes)
+  uncovered four =
+      before Told o p (IsUncoveredOperator bytes) x.of_function (λ h. omega (arith, four, (x.of_none h).0)) (λ f g a. a.uncovered four)
+
   pub failed : on_refusal ≡ Fail → (s ≡ 1) ⊎ ((s ≡ 2) ⊎ (s ≡ 3)) → Becomes o p Fails
   failed is d =
       becomes Told o p Fails x.of_function (λ h. elim d [ inl e ↦ omega (arith, e, (x.of_none h).0) | inr r ↦ elim r [ inl e ↦ omega (arith, e, (x.of_none h).0) | inr e ↦ omega (arith, e, (x.of_none h).0) ] ]) (λ f g a. a.failed is d)
 
   pub unchanged : (s ≡ 4) ⊎ (s ≡ 6) → p ≡ o
   unchanged d =
-      same Told o p x.of_function (λ h. (x.of_none h).1) (λ f g a. elim d [ inl e ↦ a.uncovered e | inr e ↦ absurd (omega (arith, e, a.known)) ])
+      same Told o p x.of_function (λ h. (x.of_none h).1) (λ f g a. elim d [ inl e ↦ a.unchanged e | inr e ↦ absurd (omega (arith, e, a.known)) ])
 
   pub back : on_refusal ≡ LeaveNoTrace → s ≢ 0 → p ≡ o
   back is d = same Told o p x.of_function (λ h. (x.of_none h).1) (λ f g a. a.back is d)

@@ -3,6 +3,7 @@ use Rattle.std.proofs.Common.{◌≡◌, ◌≤◌, ◌≢◌, ◌<◌, ◌+◌,
 use Rattle.std.proofs.lemmas.Option.{slice_get_within}
 use mathlib.Core.Logic.{◌⊎◌, inl, inr}
 use Rattle.module_check.specs.Items.{IsSafeAt, IsRefusedAt, item_count}
+use Rattle.module_check.specs.UncoveredModule.{IsUncoveredAt}
 use Rattle.module_check.specs.declared.loaded.LoadedModule.{LoadedModule}
 use Rattle.module_check.specs.declared.module_verdict.ModuleVerdict.{ModuleVerdict}
 use Rattle.c_api.specs.Items.{IsReportedAt, IsReported, AreSafeBetween, AreSafeFrom}
@@ -27,8 +28,8 @@ module _ (m : LoadedModule) where
   one_more start place b i q s l = elim (either place q) [ inl past ↦ subst (IsSafeAt m) (omega (arith, past, l)) i | inr before ↦ b q s before ]
 
   -- what stands before the end is reported, where all before are safe
-  pub reported_before : (start place end : ℕ) (v : ModuleVerdict) → start ≤ place → place < item_count m → end ≡ place + 1 → AreSafeBetween m start place → IsReportedAt m place v → (v.status ≢ 3 → IsRefusedAt m place) → IsReported m start end v
-  reported_before start place end v from inside is before at refused =
+  pub reported_before : (start place end : ℕ) (v : ModuleVerdict) → start ≤ place → place < item_count m → end ≡ place + 1 → AreSafeBetween m start place → IsReportedAt m place v → (v.status ≢ 3 → IsRefusedAt m place) → (v.status ≡ 4 → IsUncoveredAt m place) → IsReported m start end v
+  reported_before start place end v from inside is before at refused uncovered =
       let here : place ≡ end - 1 = omega (arith, is) in
       record {
         further = omega (arith, from, is);
@@ -36,4 +37,5 @@ module _ (m : LoadedModule) where
         before = subst (AreSafeBetween m start) here before;
         reported = subst (λ p. IsReportedAt m p v) here at;
         refused = λ memory. subst (IsRefusedAt m) here (refused memory);
+        uncovered = λ four. subst (IsUncoveredAt m) here (uncovered four);
       }

@@ -1,7 +1,7 @@
 -- What the calls on a function say (the crate's own).
 use Rattle.std.specs.Prelude.{◌≡◌, ◌≢◌, ◌≤◌, ◌⊎◌, ℕ, List, None, Some}
 use Rattle.validate_func.specs.Functions.{Fails}
-use Rattle.c_api.specs.Functions.{InProgress, Takes, CannotTake}
+use Rattle.c_api.specs.Functions.{InProgress, Takes, CannotTake, IsUncoveredOperator}
 use Rattle.c_api.specs.Handle.{MaybeKept}
 use Rattle.c_api.specs.declared.kept.Kept.TheVariants.{Module, Function}
 use Rattle.c_api.specs.declared.on_refusal.OnRefusal.{OnRefusal}
@@ -39,7 +39,8 @@ pub record OpAnswer
   pub accepted : status ≡ 0 → Takes bytes offset taken f g
   pub refused : (status ≡ 1) ⊎ (status ≡ 2) → CannotTake bytes f
   pub failed : on_refusal ≡ Fail → (status ≡ 1) ⊎ (status ≡ 2) ⊎ (status ≡ 3) → Fails f g
-  pub uncovered : status ≡ 4 → g ≡ f
+  pub uncovered : status ≡ 4 → IsUncoveredOperator bytes f
+  pub unchanged : status ≡ 4 → g ≡ f
   pub back : on_refusal ≡ LeaveNoTrace → status ≢ 0 → g ≡ f
   pub none_taken : status ≢ 0 → taken ≡ 0
   pub known : status ≤ 4

@@ -1,10 +1,12 @@
 -- A function that is validated operator by operator, and what becomes of it (the crate's own).
-use Rattle.std.specs.Prelude.{◌≡◌, ◌≢◌, ℕ, false, List, []}
+use Rattle.std.specs.Prelude.{◌≡◌, ◌≢◌, ℕ, true, false, List, []}
+use Rattle.binary_operators.specs.Vectors.{BeginVector}
 use Rattle.binary_operators.specs.declared.types.CanonicalTypes.{CanonicalTypes}
 use Rattle.validate_operators.specs.Begin.{IsBodyStart}
 use Rattle.validate_operators.specs.Runs.{IsAcceptedBody, IsSafe}
 use Rattle.validate_operators.specs.Start.{DefinesLocals}
 use Rattle.validate_func.specs.Functions.{FunctionState, function_from, body_state, Accepts}
+use Rattle.validate_types.specs.Features.{has, simd}
 use Rattle.validate_types.specs.declared.types.ValType.{ValType}
 use Rattle.validate_visit.specs.declared.body.BodyKind.{BodyKind}
 use Rattle.validate_visit.specs.declared.body.BodyKind.TheVariants.{Expression}
@@ -67,3 +69,10 @@ pub record Takes (bytes : List ℕ) (offset taken : ℕ) (f g : InProgress) : Ty
 abbrev pub CannotTake : List ℕ → InProgress → Type 0
 CannotTake bytes f =
     f.failed ≡ false → f.present.frames ≢ [] → HasNoRow (module_under f) bytes (body_state f)
+
+-- The bytes begin with a vector operator, whose proposal is on. It hasn't failed, and a frame is open.
+pub record IsUncoveredOperator (bytes : List ℕ) (f : InProgress) : Type 0 where
+  pub begins : BeginVector bytes
+  pub is_on : has (features_in (module_under f)) simd ≡ true
+  pub none_failed : f.failed ≡ false
+  pub is_open : f.present.frames ≢ []

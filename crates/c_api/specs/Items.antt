@@ -1,6 +1,7 @@
 -- What is reported of the constant expressions and bodies of a module in one row (the crate's own).
 use Rattle.std.specs.Prelude.{◌≡◌, ◌≢◌, ℕ, ◌-◌, ◌≤◌, ◌<◌, Some}
 use Rattle.module_check.specs.Items.{IsItemAt, IsRefusedAt, IsSafeAt, item_count}
+use Rattle.module_check.specs.UncoveredModule.{IsUncoveredAt}
 use Rattle.module_check.specs.Verdicts.{Reports}
 use Rattle.module_check.specs.declared.loaded.LoadedModule.{LoadedModule}
 use Rattle.module_check.specs.declared.module_verdict.ModuleVerdict.{ModuleVerdict}
@@ -22,10 +23,11 @@ pub record IsReportedAt (m : LoadedModule) (place : ℕ) (v : ModuleVerdict) : T
   pub reports : Reports (Some item) v
 
 -- Of those from the place start on, the one before the place end is reported, and those before it are safe.
--- Unless memory ran out, it isn't accepted.
+-- Unless memory ran out, it isn't accepted; at the status of what isn't covered, it isn't covered.
 pub record IsReported (m : LoadedModule) (start end : ℕ) (v : ModuleVerdict) : Type 0 where
   pub further : start < end
   pub within : end ≤ item_count m
   pub before : AreSafeBetween m start (end - 1)
   pub reported : IsReportedAt m (end - 1) v
   pub refused : v.status ≢ 3 → IsRefusedAt m (end - 1)
+  pub uncovered : v.status ≡ 4 → IsUncoveredAt m (end - 1)

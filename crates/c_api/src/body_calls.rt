@@ -2,7 +2,8 @@
 
 ghost use Rattle.std.specs.Prelude.{◌≡◌, ◌≢◌, ◌≤◌, ◌↔◌, true, false, length, None, IfOk, IfErr, IfSome};
 ghost use Rattle.module_check.specs.Loaded.{declared};
-ghost use Rattle.module_check.specs.Verdicts.{IsConsistent};
+ghost use Rattle.module_check.specs.Refusals.{IsVector};
+ghost use Rattle.module_check.specs.Verdicts.{IsConsistent, IsCovered};
 ghost use Rattle.module_check.specs.declared.verdict.Verdict.TheVariants.{Accepted};
 ghost use Rattle.c_api.specs.Calls.{OnHeld, OnWhole, HasNoBody, HasNoModule};
 ghost use Rattle.c_api.specs.FunctionCalls.{OnFunction};
@@ -37,6 +38,7 @@ fn start_with_locals(
     ensures starting { IfOk result (λ v. IsStarting (declared loaded.now) (state v)) }
     ensures locals { IfOk result (λ v. StartsWithLocals loaded.now ty code.old.types code.old.reader.left
         code.new.reader.left (state v)) }
+    ensures covered { IfErr result (λ e. ¬ IsVector e) }
 {
     let features = loaded.features().operator_features();
     let resources = loaded.resources();
@@ -59,6 +61,7 @@ fn start_body(alloc: Global, loaded: &LoadedModule<'_>, function: u32) -> Result
     ensures starting { IfOk result (λ b. IsStarting (declared loaded.now) (state b.validator)) }
     ensures begun { IfOk result (λ b. StartsBody loaded.now function b.first b.behind (state b.validator)) }
     ensures refused { IfErr result (λ verdict. verdict ≢ Accepted) }
+    ensures covered { IfErr result IsCovered }
 {
     let (Some(mut code), Some(ty)) = (loaded.code_of(function), loaded.type_of(function)) else {
         return Err(Verdict::Refused(Error::new(
@@ -83,6 +86,7 @@ fn start_held(alloc: Global, held: &HeldModule, function: u32) -> Result<BodySta
     ensures begun { IfOk result (λ b. OnWhole held.now (λ m.
         StartsBody m function b.first b.behind (state b.validator))) }
     ensures refused { IfErr result (λ verdict. verdict ≢ Accepted) }
+    ensures covered { IfErr result IsCovered }
 {
     match held {
         HeldModule::Whole(loaded) => start_body(alloc, loaded, function),
@@ -139,6 +143,7 @@ fn begin_shared(
     ensures begun { IfSome result (λ p. (out.new.status ≡ 0) × OnWhole (module_of «shared») (λ m.
         OnFunction function.new.held (IsBodyBegun m index p.first p.behind))) }
     ensures missing { result ≡ None → (out.new.status ≢ 0) × (function.new.held ≡ function.old.held) }
+    ensures covered { out.new.status ≢ 4 }
     ensures no_body { out.new.status ≡ 5 ↔ HasNoBody (module_of «shared») index }
     ensures known { out.new.status ≤ 5 }
 {
@@ -185,6 +190,7 @@ pub fn begin_body(
     ensures begun { result ≡ 0 → OnHeld «module».old.held (λ h. OnWhole h (λ m.
         OnFunction function.new.held (IsBodyBegun m index first.new behind.new))) }
     ensures unchanged { result ≢ 0 → function.new.held ≡ function.old.held }
+    ensures covered { result ≢ 4 }
     ensures missing { result ≡ 5 → OnHeld «module».old.held (λ h. HasNoBody h index) }
     ensures none { result ≡ 6 ↔ HasNoModule «module».old.held }
     ensures known { result ≤ 6 }

@@ -1,12 +1,13 @@
 //! The calls of C on a module.
 
-ghost use Rattle.std.specs.Prelude.{◌≡◌, ◌≢◌, ◌⊎◌, ◌≤◌, ◌<◌, ◌-◌, ◌^◌, ◌↔◌, length, min, true, false, None, Some, IsOk, IfOk, IfErr, IfSome};
-ghost use Rattle.module_check.specs.Items.{HasUncovered, item_count};
+ghost use Rattle.std.specs.Prelude.{◌≡◌, ◌≢◌, ◌⊎◌, ◌≤◌, ◌<◌, ◌-◌, ◌^◌, ◌↔◌, ℕ, length, min, true, false, None, Some, IsOk, IfOk, IfErr, IfSome, MatchResult};
+ghost use Rattle.module_check.specs.Items.{item_count};
 ghost use Rattle.module_check.specs.Loaded.{IsAcceptedFunction, IsAcceptedModule, IsSafeFunction, IsValid};
-ghost use Rattle.module_check.specs.Loaded.{IsUncoveredFunction};
+ghost use Rattle.module_check.specs.UncoveredModule.{AreUncovered, HasUncovered, HasVectorIn, IsUncoveredFunction};
 ghost use Rattle.module_check.specs.Verdicts.{IsConsistent, Reports, SaysNo, total};
 ghost use Rattle.module_check.specs.declared.verdict.Item.TheVariants.{Function};
-ghost use Rattle.module_check.specs.declared.verdict.Verdict.TheVariants.{Accepted};
+ghost use Rattle.module_check.specs.declared.verdict.Verdict.TheVariants.{Accepted, NotCovered};
+ghost use Rattle.module_rules.specs.Features.{of_bits};
 ghost use Rattle.c_api.specs.Calls.{OnWhole, OfWhole, OnHeld, OnModule, OfModule, OnDeclared, HaveTheSame};
 ghost use Rattle.c_api.specs.Calls.{OfHeld};
 ghost use Rattle.c_api.specs.Calls.{IsLoadedFrom, IsValidModuleOf, AreDeclaredFrom};
@@ -38,6 +39,8 @@ pub(crate) fn status_of(verdict: &ModuleVerdict) -> u32
 fn read<'a>(alloc: Global, bytes: &'a [u8], features: u32) -> Result<LoadedModule<'a>, Verdict>
     ensures loaded { IfOk result (IsLoadedFrom bytes.now features) }
     ensures refused { IfErr result (λ verdict. verdict ≢ Accepted) }
+    ensures uncovered { IfErr result (λ verdict. (offset : ℕ) → verdict ≡ NotCovered offset
+        → HasVectorIn (of_bits features) bytes.now) }
 {
     LoadedModule::new(alloc, bytes, ModuleFeatures::of_bits(features))
 }
@@ -54,6 +57,8 @@ fn check_read(
     ensures consistent { IsConsistent (length text.new) out.new }
     ensures read { out.new.status ≡ 0 → IsOk read.now }
     ensures valid { out.new.status ≡ 0 → IfOk read.now IsValid }
+    ensures uncovered { out.new.status ≡ 4 → (out.old.status ≡ 4)
+        ⊎ MatchResult read.now HasUncovered (λ verdict. (offset : ℕ) × (verdict ≡ NotCovered offset)) }
     ensures known { out.old.status ≤ 4 → out.new.status ≤ 4 }
 {
     match read {
@@ -64,7 +69,8 @@ fn check_read(
 
 /// Checks a module, of which these are all the bytes, under these proposals: what it declares, each body and each
 /// constant expression. It writes the totals to `out`, and to `text` the text of the first finding of the gravest kind,
-/// cut to the room there. It answers the status: where that is 0, the module is valid.
+/// cut to the room there. It answers the status: where that is 0, the module is valid; where it is 4, one of these has a
+/// vector operator behind accepted ones, or an expression has one at which it can't be read.
 pub fn validate(
     alloc: Global,
     bytes: &[u8],
@@ -75,6 +81,7 @@ pub fn validate(
     ensures status { result ≡ out.new.status }
     ensures consistent { IsConsistent (length text.new) out.new }
     ensures valid { result ≡ 0 → IsValidModuleOf bytes.now features }
+    ensures uncovered { result ≡ 4 → AreUncovered (of_bits features) bytes.now }
     ensures known { result ≤ 4 }
 {
     *out = ModuleVerdict::new();
@@ -118,6 +125,7 @@ pub fn load(
     ensures consistent { IsConsistent (length text.new) out.new }
     ensures loaded { result ≡ 0 → OnModule handle.new.held (IsLoadedFrom bytes.now features) }
     ensures unchanged { result ≢ 0 → handle.new.held ≡ handle.old.held }
+    ensures uncovered { result ≡ 4 → HasVectorIn (of_bits features) bytes.now }
     ensures known { result ≤ 4 }
 {
     *out = ModuleVerdict::new();
@@ -148,6 +156,7 @@ pub fn declare(
     ensures declared { result ≡ 0 → OnHeld handle.new.held (λ h.
         OnDeclared h (AreDeclaredFrom bytes.now features)) }
     ensures unchanged { result ≢ 0 → handle.new.held ≡ handle.old.held }
+    ensures uncovered { result ≡ 4 → HasVectorIn (of_bits features) bytes.now }
     ensures known { result ≤ 4 }
 {
     *out = ModuleVerdict::new();
@@ -170,6 +179,8 @@ fn read_declarations(
 ) -> Result<LoadedDeclarations, Verdict>
     ensures declared { IfOk result (AreDeclaredFrom bytes.now features) }
     ensures refused { IfErr result (λ verdict. verdict ≢ Accepted) }
+    ensures uncovered { IfErr result (λ verdict. (offset : ℕ) → verdict ≡ NotCovered offset
+        → HasVectorIn (of_bits features) bytes.now) }
 {
     LoadedDeclarations::new(alloc, bytes, ModuleFeatures::of_bits(features))
 }

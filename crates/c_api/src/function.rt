@@ -1,9 +1,10 @@
 //! A function that is validated operator by operator, over a module that it keeps.
 
 ghost use Rattle.std.specs.Prelude.{◌≡◌, ◌≢◌, ◌↔◌, ℕ, true, false, [], Some, None, length, slice_get, option_map, IsOk, IsSome, OnOk, OnErr, IfOk, IfErr, IfSome};
-ghost use Rattle.binary_operators.specs.declared.error.Cause.TheVariants.{OutOfMemory as NoMemory};
+ghost use Rattle.binary_operators.specs.declared.error.Cause.TheVariants.{OutOfMemory as NoMemory, VectorOperator};
+ghost use Rattle.module_check.specs.Verdicts.{IsCovered};
 ghost use Rattle.module_check.specs.declared.verdict.Verdict.TheVariants.{Accepted, NotCovered, OutOfMemory};
-ghost use Rattle.c_api.specs.Functions.{module_under, IsBegun, Takes, CannotTake};
+ghost use Rattle.c_api.specs.Functions.{module_under, IsBegun, Takes, CannotTake, IsUncoveredOperator};
 ghost use Rattle.c_api.specs.Modules.{module_of, context_in, features_in, AreTypesIn};
 ghost use Rattle.c_api.specs.Shown.{shown_type, shown_operand, shown_frame};
 ghost use Rattle.validate_operators.specs.Begin.{CannotStart};
@@ -65,6 +66,7 @@ impl FunctionInProgress {
         ensures refused { IfErr result (λ verdict. verdict ≢ Accepted) }
         ensures cannot { IfErr result (λ verdict. verdict ≢ OutOfMemory
             → CannotStart (context_in (module_of «module»)) (features_in (module_of «module»)) kind) }
+        ensures covered { IfErr result IsCovered }
     {
         let features = module.held.features();
         let buffers = OperatorValidatorAllocations::new(alloc);
@@ -157,6 +159,8 @@ impl FunctionInProgress {
         ensures failed { on_refusal ≡ OnRefusal.Fail → IfErr result (λ verdict.
             ((at : ℕ) → verdict ≢ NotCovered at) → Fails self.old self.new) }
         ensures uncovered { IfErr result (λ verdict. (at : ℕ) → verdict ≡ NotCovered at
+            → IsUncoveredOperator bytes.now self.old) }
+        ensures unchanged { IfErr result (λ verdict. (at : ℕ) → verdict ≡ NotCovered at
             → self.new ≡ self.old) }
         ensures back { on_refusal ≡ OnRefusal.LeaveNoTrace → OnErr result (self.new ≡ self.old) }
         ensures had_failed { self.old.failed ≡ true → self.new ≡ self.old }
@@ -288,6 +292,7 @@ fn innermost_frame(v: &OperatorValidator) -> Frame
 fn unread(alloc: Global, error: ReadError, offset: u64) -> Verdict
     ensures not_accepted { result ≢ Accepted }
     ensures memory { result ≢ OutOfMemory → error.cause ≢ NoMemory }
+    ensures uncovered { (at : ℕ) → result ≡ NotCovered at → error.cause ≡ VectorOperator }
 {
     let placed = ReadError {
         cause: error.cause,

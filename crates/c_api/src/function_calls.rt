@@ -1,13 +1,13 @@
 //! The calls of C on a function in progress.
 
 ghost use Rattle.std.specs.Prelude.{◌≡◌, ◌≢◌, ◌⊎◌, ◌≤◌, ◌↔◌, false, [], length, None, Some, IfOk, IfErr, OnOk, OnErr, IfSome, MatchResult};
-ghost use Rattle.module_check.specs.Verdicts.{IsConsistent, status_of as status_said};
+ghost use Rattle.module_check.specs.Verdicts.{IsConsistent, IsCovered, status_of as status_said};
 ghost use Rattle.module_check.specs.declared.verdict.Verdict.TheVariants.{Accepted};
 ghost use Rattle.c_api.specs.Calls.{OnHeld, HasNoModule};
 ghost use Rattle.c_api.specs.FunctionCalls.{OnFunction, OfFunction, OfBoth, Becomes, HasNoFunction};
 ghost use Rattle.c_api.specs.FunctionCalls.{OpAnswer, HandleAnswer};
 ghost use Rattle.c_api.specs.Functions.{IsBegun, IsExpressionBegun, Takes, CannotTake};
-ghost use Rattle.c_api.specs.Functions.{DefinesShown, IsWhole};
+ghost use Rattle.c_api.specs.Functions.{DefinesShown, IsWhole, IsUncoveredOperator};
 ghost use Rattle.c_api.specs.Modules.{module_of};
 ghost use Rattle.c_api.specs.declared.kept.Kept.TheVariants.{Function as AFunction};
 ghost use Rattle.validate_func.specs.Functions.{Fails};
@@ -88,6 +88,7 @@ pub(crate) fn keep_begun(
     ensures begun { out.new.status ≡ 0
         → MatchResult begun (λ f. handle.new.held ≡ Some (AFunction f)) (λ _. ⊥) }
     ensures unchanged { out.new.status ≢ 0 → handle.new.held ≡ handle.old.held }
+    ensures covered { IfErr begun IsCovered → out.new.status ≢ 4 }
     ensures known { out.new.status ≤ 4 }
 {
     match begun {
@@ -115,6 +116,7 @@ pub fn begin(
     ensures begun { result ≡ 0 → OnHeld «module».old.held (λ h.
         OnFunction function.new.held (IsBegun h (Function type_index))) }
     ensures unchanged { result ≢ 0 → function.new.held ≡ function.old.held }
+    ensures covered { result ≢ 4 }
     ensures none { result ≡ 6 ↔ HasNoModule «module».old.held }
     ensures known { (result ≤ 4) ⊎ (result ≡ 6) }
     ensures kept { «module».new.held ≡ «module».old.held }
@@ -129,7 +131,8 @@ pub fn begin(
 
 /// The verdict on a type that is shown and is none.
 fn no_type(fault: Fault, offset: u64) -> Verdict
-    ensures { result ≢ Accepted }
+    ensures not_accepted { result ≢ Accepted }
+    ensures covered { IsCovered result }
 {
     Verdict::of_read_error(ReadError::malformed(fault, offset))
 }
@@ -142,6 +145,7 @@ fn begin_shown(
 ) -> Result<FunctionInProgress, Verdict>
     ensures begun { IfOk result (IsExpressionBegun (module_of shared) shown.now) }
     ensures refused { IfErr result (λ verdict. verdict ≢ Accepted) }
+    ensures covered { IfErr result IsCovered }
 {
     match shown.value_type(shared.held.types()) {
         Ok(ty) => FunctionInProgress::begin(alloc, shared, BodyKind::Expression(ty)),
@@ -163,6 +167,7 @@ pub fn begin_expression(
     ensures begun { result ≡ 0 → OnHeld «module».old.held (λ h.
         OnFunction function.new.held (IsExpressionBegun h shown.now)) }
     ensures unchanged { result ≢ 0 → function.new.held ≡ function.old.held }
+    ensures covered { result ≢ 4 }
     ensures none { result ≡ 6 ↔ HasNoModule «module».old.held }
     ensures known { (result ≤ 4) ⊎ (result ≡ 6) }
     ensures kept { «module».new.held ≡ «module».old.held }
@@ -314,7 +319,7 @@ fn op_of_handle(
 
 /// Takes the operator that the bytes begin with. Where the status is 0, it is accepted, and `taken` is how
 /// many bytes it has; else that is 0. Where it is 1, 2 or 3, the function has failed; where it is 4 or 6,
-/// nothing is changed.
+/// nothing is changed. Where it is 4, the bytes begin with a vector operator, and its proposal is on.
 pub fn op(
     alloc: Global,
     handle: &mut Handle,
@@ -328,6 +333,7 @@ pub fn op(
     ensures consistent { IsConsistent (length text.new) out.new }
     ensures accepted { result ≡ 0 → Becomes handle.old.held handle.new.held (Takes bytes.now offset taken.new) }
     ensures refused { (result ≡ 1) ⊎ (result ≡ 2) → OnFunction handle.old.held (CannotTake bytes.now) }
+    ensures uncovered { result ≡ 4 → OnFunction handle.old.held (IsUncoveredOperator bytes.now) }
     ensures failed { (result ≡ 1) ⊎ (result ≡ 2) ⊎ (result ≡ 3)
         → Becomes handle.old.held handle.new.held Fails }
     ensures unchanged { (result ≡ 4) ⊎ (result ≡ 6) → handle.new.held ≡ handle.old.held }
@@ -361,6 +367,7 @@ pub fn try_op(
     ensures consistent { IsConsistent (length text.new) out.new }
     ensures accepted { result ≡ 0 → Becomes handle.old.held handle.new.held (Takes bytes.now offset taken.new) }
     ensures refused { (result ≡ 1) ⊎ (result ≡ 2) → OnFunction handle.old.held (CannotTake bytes.now) }
+    ensures uncovered { result ≡ 4 → OnFunction handle.old.held (IsUncoveredOperator bytes.now) }
     ensures back { result ≢ 0 → handle.new.held ≡ handle.old.held }
     ensures none { result ≡ 6 ↔ HasNoFunction handle.old.held }
     ensures known { (result ≤ 4) ⊎ (result ≡ 6) }
@@ -384,6 +391,7 @@ fn note_done(answer: Result<(), Verdict>, text: &mut [u8], out: &mut ModuleVerdi
     requires first { out.old.status ≡ 0 }
     ensures consistent { IsConsistent (length text.new) out.new }
     ensures told { MatchResult answer (λ _. out.new.status ≡ 0) (λ verdict. out.new.status ≡ status_said verdict) }
+    ensures covered { IfErr answer IsCovered → out.new.status ≢ 4 }
     ensures known { out.new.status ≤ 4 }
 {
     if let Err(verdict) = answer {
@@ -400,6 +408,7 @@ fn define_shown(
 ) -> Result<(), Verdict>
     ensures defined { OnOk result (DefinesShown count shown.now function.old function.new) }
     ensures refused { IfErr result (λ verdict. verdict ≢ Accepted) }
+    ensures covered { IfErr result IsCovered }
     ensures err { OnErr result (function.new ≡ function.old) }
 {
     match shown.value_type(function.types()) {
@@ -426,6 +435,7 @@ fn define_kept(
     ensures defined { out.new.status ≡ 0
         → Becomes (Some kept.old) (Some kept.new) (DefinesShown count shown.now) }
     ensures unchanged { out.new.status ≢ 0 → kept.new ≡ kept.old }
+    ensures covered { out.new.status ≢ 4 }
     ensures none { out.new.status ≡ 6 ↔ HasNoFunction (Some kept.old) }
     ensures known { (out.new.status ≤ 4) ⊎ (out.new.status ≡ 6) }
 {
@@ -451,6 +461,7 @@ pub fn define_locals(
     ensures consistent { IsConsistent (length text.new) out.new }
     ensures defined { result ≡ 0 → Becomes handle.old.held handle.new.held (DefinesShown count shown.now) }
     ensures unchanged { result ≢ 0 → handle.new.held ≡ handle.old.held }
+    ensures covered { result ≢ 4 }
     ensures none { result ≡ 6 ↔ HasNoFunction handle.old.held }
     ensures known { (result ≤ 4) ⊎ (result ≡ 6) }
 {
@@ -469,6 +480,7 @@ fn finished(function: &FunctionInProgress, offset: u64) -> Result<(), Verdict>
     ensures whole { OnOk result (IsWhole function.now) }
     ensures open { OnErr result (¬ ((function.now.failed ≡ false) × (function.now.present.frames ≡ []))) }
     ensures refused { IfErr result (λ verdict. verdict ≢ Accepted) }
+    ensures covered { IfErr result IsCovered }
 {
     match function.finish(offset) {
         Ok(()) => Ok(()),
@@ -484,6 +496,7 @@ fn finish_kept(kept: &Kept, offset: u64, text: &mut [u8], out: &mut ModuleVerdic
     ensures whole { out.new.status ≡ 0 → OnFunction (Some kept.now) IsWhole }
     ensures open { out.new.status ≢ 0 → OfFunction (Some kept.now) (λ f.
         ¬ ((f.failed ≡ false) × (f.present.frames ≡ []))) }
+    ensures covered { out.new.status ≢ 4 }
     ensures none { out.new.status ≡ 6 ↔ HasNoFunction (Some kept.now) }
     ensures known { (out.new.status ≤ 4) ⊎ (out.new.status ≡ 6) }
 {
@@ -506,6 +519,7 @@ pub fn finish(
     ensures consistent { IsConsistent (length text.new) out.new }
     ensures whole { result ≡ 0 → OnFunction handle.old.held IsWhole }
     ensures open { result ≢ 0 → OfFunction handle.old.held (λ f. ¬ ((f.failed ≡ false) × (f.present.frames ≡ []))) }
+    ensures covered { result ≢ 4 }
     ensures none { result ≡ 6 ↔ HasNoFunction handle.old.held }
     ensures known { (result ≤ 4) ⊎ (result ≡ 6) }
     ensures kept { handle.new.held ≡ handle.old.held }

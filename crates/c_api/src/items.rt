@@ -2,6 +2,7 @@
 
 ghost use Rattle.std.specs.Prelude.{◌≡◌, ◌≢◌, ◌≤◌, length};
 ghost use Rattle.module_check.specs.Items.{IsSafeAt, IsRefusedAt};
+ghost use Rattle.module_check.specs.UncoveredModule.{IsUncoveredAt};
 ghost use Rattle.module_check.specs.Verdicts.{IsConsistent, SaysNo};
 ghost use Rattle.c_api.specs.Items.{IsReportedAt, IsReported, AreSafeFrom};
 
@@ -21,6 +22,7 @@ fn check_at(
     ensures accepted { out.new.status ≡ 0 → IsSafeAt module.now place }
     ensures reported { out.new.status ≢ 0 → IsReportedAt module.now place out.new }
     ensures refused { SaysNo out.new.status → IsRefusedAt module.now place }
+    ensures uncovered { out.new.status ≡ 4 → IsUncoveredAt module.now place }
     ensures known { out.new.status ≤ 4 }
 {
     let checked = check_item(module, place, buffers);

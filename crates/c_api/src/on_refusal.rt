@@ -18,7 +18,7 @@ impl OnRefusal {
     /// Whether the function has failed at a verdict that isn't acceptance.
     pub fn fails_at(self, verdict: &Verdict) -> bool
         ensures failed { self ≡ OnRefusal.Fail → ((at : ℕ) → verdict.now ≢ NotCovered at) → result ≡ true }
-        ensures uncovered { (at : ℕ) → verdict.now ≡ NotCovered at → result ≡ false }
+        ensures not_failed { (at : ℕ) → verdict.now ≡ NotCovered at → result ≡ false }
         ensures no_trace { self ≡ OnRefusal.LeaveNoTrace → result ≡ false }
     {
         match self {

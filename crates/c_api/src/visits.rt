@@ -1,8 +1,9 @@
 //! A body that is validated as its bytes come.
 
 ghost use Rattle.std.specs.Prelude.{◌≡◌, ◌≢◌, None, OnErr, IfOk, IfErr, IfSome};
-ghost use Rattle.binary_operators.specs.declared.error.Cause.TheVariants.{OutOfMemory};
-ghost use Rattle.module_check.specs.Refusals.{IsRefusal};
+ghost use Rattle.binary_operators.specs.Vectors.{BeginVector};
+ghost use Rattle.binary_operators.specs.declared.error.Cause.TheVariants.{OutOfMemory, VectorOperator};
+ghost use Rattle.module_check.specs.Refusals.{IsRefusal, IsVector};
 ghost use Rattle.c_api.specs.Modules.{context_in};
 ghost use Rattle.c_api.specs.Operators.{IsOperatorOf, BeginsWithNone, HasNoRow};
 ghost use Rattle.validate_operators.specs.Start.{state, stacks_of};
@@ -34,6 +35,7 @@ fn read_into<'l>(
 ) -> Result<usize, ReadError>
     ensures read { IfOk result (λ taken. IsOperatorOf module.now bytes.now op.new taken) }
     ensures refused { IfErr result (λ e. e.cause ≢ OutOfMemory → BeginsWithNone module.now bytes.now) }
+    ensures vector { IfErr result (λ e. e.cause ≡ VectorOperator → BeginVector bytes.now) }
 {
     let types = module.types();
     let mut reader = BinaryReader::new(bytes);
@@ -162,6 +164,7 @@ impl Visits {
         ensures accepted { IfOk result (λ taken. IsVisited module.now bytes.now offset taken self.old self.new) }
         ensures refused { IfErr result (λ e. IsRefusal e
             → HasNoRow module.now bytes.now (state self.old.validator)) }
+        ensures uncovered { IfErr result (λ e. IsVector e → BeginVector bytes.now) }
         ensures unread { IfErr result (λ e. IsUnread e → IsUnvisited self.old self.new) }
         ensures back { on_refusal ≡ OnRefusal.LeaveNoTrace → OnErr result (IsUnvisited self.old self.new) }
         ensures list { OnErr result (self.new.accepted ≡ self.old.accepted) }

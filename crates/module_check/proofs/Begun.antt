@@ -1,7 +1,7 @@
 -- What was read and accepted is the code of a body; where something isn't accepted, the bytes are no such code.
 use Rattle.std.proofs.Common.{◌≡◌, ℕ, Bool, List, [], ◌∷◌, length, Option, Some, None, refl, sym, ap, ◌∙◌, subst, Result, Ok, Err, ◌⊎◌, inl, inr, arith}
 use Rattle.std.specs.Option.{option_and_then}
-use Rattle.std.specs.Prelude.{IsOk, OnOk, OnErr, IfErr}
+use Rattle.std.specs.Prelude.{IsOk, OnOk, IfErr}
 use Rattle.binary_operators.specs.Functions.{IsFunctionCode}
 use Rattle.binary_operators.specs.declared.types.CanonicalTypes.{CanonicalTypes}
 use Rattle.validate_types.specs.declared.features.WasmFeatures.{WasmFeatures}
@@ -18,7 +18,9 @@ use Rattle.validate_operators.specs.Begin.{IsBodyStart, IsExpressionStart, Canno
 use Rattle.module_check.specs.Accepted.{IsCode, AreAcceptedOperators, IsAcceptedCode}
 use Rattle.module_check.specs.Begin.{DefinesRead}
 use Rattle.module_check.specs.Safe.{AreSafeOperators, IsSafeCode}
-use Rattle.module_check.specs.Uncovered.{BeginLocals, HasVector, ReachVector}
+use Rattle.module_check.specs.Faults.{HasFault, HaveNoLocals, ReachFault}
+use Rattle.module_check.specs.Uncovered.{BeginLocals}
+use Rattle.module_check.specs.declared.verdict.CheckError.{CheckError}
 use Rattle.validate_visit.specs.declared.body.BodyKind.{BodyKind}
 use Rattle.validate_visit.specs.declared.body.BodyKind.TheVariants.{Function, Expression}
 
@@ -108,9 +110,9 @@ module _ (md : ModuleContext) (features : WasmFeatures) (types : CanonicalTypes)
       (subst (λ k. IsCode types k bytes d.groups (without_offsets s.accepted.ops)) (sym is)
       (record { behind = behind; has_locals = d.are_read; has_operators = s.accepted.are_read }))
 
-  -- a vector operator stands behind the locals and what is accepted
-  pub function_vector : (kind : BodyKind) (index : ℕ) → kind ≡ Function index → IsBodyStart md features kind v → DefinesRead md types bytes behind v u → ReachVector md types may u behind → HasVector md features types kind may bytes
-  function_vector kind index is starts d reached = record {
+  -- a fault stands behind the locals and what is accepted
+  pub function_fault : (kind : BodyKind) (index : ℕ) (e : CheckError) → kind ≡ Function index → IsBodyStart md features kind v → DefinesRead md types bytes behind v u → ReachFault md types may u behind e → HasFault md features types kind may bytes e
+  function_fault kind index e is starts d reached = record {
     groups = d.groups;
     behind = behind;
     are_read = subst (λ k. BeginLocals types k bytes d.groups behind) (sym is) d.are_read;
@@ -131,8 +133,14 @@ module _ (md : ModuleContext) (features : WasmFeatures) (types : CanonicalTypes)
       )
 
   -- it has no such locals
-  pub no_groups : (kind : BodyKind) (index : ℕ) → kind ≡ Function index → IsBodyStart md features kind v → ((rest : List ℕ) (w : BodyState) → ¬ DefinesRead md types bytes rest v w) → ¬ IsAcceptedCode md features types kind may bytes
-  no_groups kind index is starts none = λ a. let r = read_of kind index is starts a in none r.0 a.begun r.1
+  pub no_groups : (kind : BodyKind) (index : ℕ) → kind ≡ Function index → IsBodyStart md features kind v → ((rest : List ℕ) (w : BodyState) → ¬ DefinesRead md types bytes rest v w) → HaveNoLocals md features types kind bytes
+  no_groups kind index is starts none groups rest w read has =
+      let here = same_start md features kind has.start v has.starts starts in
+      none rest w (record {
+        groups = groups;
+        are_read = subst (λ k. BeginLocals types k bytes groups rest) is read;
+        define = subst (λ x. DefinesEach md groups x w) here has.defines;
+      })
 
   -- its operators aren't accepted
   pub no_function : (kind : BodyKind) (index : ℕ) → kind ≡ Function index → IsBodyStart md features kind v → DefinesRead md types bytes behind v u → ¬ AreAcceptedOperators md types may u behind → ¬ IsAcceptedCode md features types kind may bytes
@@ -150,8 +158,8 @@ module _ (md : ModuleContext) (features : WasmFeatures) (types : CanonicalTypes)
       begun md features types may v v bytes bytes kind [] starts refl starting s
       (subst (λ k. IsCode types k bytes [] (without_offsets s.accepted.ops)) (sym is) (refl, s.accepted.are_read))
 
-  pub expression_vector : (kind : BodyKind) (ty : ValType) → kind ≡ Expression ty → IsBodyStart md features kind v → ReachVector md types may v bytes → HasVector md features types kind may bytes
-  expression_vector kind ty is starts reached = record {
+  pub expression_fault : (kind : BodyKind) (ty : ValType) (e : CheckError) → kind ≡ Expression ty → IsBodyStart md features kind v → ReachFault md types may v bytes e → HasFault md features types kind may bytes e
+  expression_fault kind ty e is starts reached = record {
     groups = [];
     behind = bytes;
     are_read = subst (λ k. BeginLocals types k bytes [] bytes) (sym is) (refl, refl);
@@ -181,12 +189,7 @@ pub then_ok : {T E P Q : Type 0} (r : Result T E) → (P → Q) → OnOk r P →
 then_ok (Ok x) f h = f h
 then_ok (Err e) f h = h
 
--- and where there is an error, whatever it is
-pub then_err : {T E P Q : Type 0} (r : Result T E) (R : E → Type 0) → (P → Q) → OnErr r P → IfErr r (λ e. R e → Q)
-then_err (Ok x) R f h = h
-then_err (Err e) R f h = λ refusal. f h
-
--- what is said of a refusal is so where there is one
-pub refused_for : {T E Q : Type 0} (r : Result T E) (R : E → Type 0) → (IsOk r → ⊥) → IfErr r R → IfErr r (λ e. R e → Q) → Q
-refused_for (Ok x) R none refusal f = absurd (none refl)
-refused_for (Err e) R none refusal f = f refusal
+-- what follows of the error that there is, where two facts are told of it
+pub error_of : {T E Q : Type 0} (r : Result T E) (R X : E → Type 0) → (IsOk r → ⊥) → IfErr r R → IfErr r X → ((e : E) → R e → X e → Q) → Q
+error_of (Ok x) R X none is told f = absurd (none refl)
+error_of (Err e) R X none is told f = f e is told

@@ -1,14 +1,18 @@
 -- One more operator of the bytes of a body: before it they are accepted exactly if those behind it are.
-use Rattle.std.proofs.Common.{◌≡◌, ◌≢◌, ◌↔◌, ℕ, Bool, true, false, List, [], ◌∷◌, length, Option, Some, None, IfSome, IsSome, Result, Ok, Err, IfErr, is_none, ◌||◌, refl, sym, ap, ◌∙◌, subst}
+use Rattle.std.proofs.Common.{◌≡◌, ◌≢◌, ◌⊎◌, inl, inr, ℕ, Bool, true, false, List, [], ◌∷◌, length, Option, Some, None, IfSome, IsSome, Result, Ok, Err, IfErr, is_none, ◌||◌, refl, sym, ap, ◌∙◌, subst}
+use Rattle.std.specs.Prelude.{OnErr}
 use Rattle.std.proofs.lemmas.Bool.{and_from, and_parts}
 use Rattle.std.specs.Option.{option_and_then, option_map}
 use Rattle.binary_operators.specs.Expressions.{AreOperators}
 use Rattle.binary_operators.specs.Instructions.{operator as read_as}
 use Rattle.binary_operators.specs.Unplaced.{unplaced}
 use Rattle.binary_operators.specs.Vectors.{BeginVector}
+use Rattle.binary_operators.specs.declared.error.Cause.{Cause}
+use Rattle.binary_operators.specs.declared.error.Cause.TheVariants.{Malformed, VectorOperator, OutOfMemory}
 use Rattle.binary_operators.specs.declared.types.CanonicalTypes.{CanonicalTypes}
 use Rattle.validate_resources.specs.Context.{ModuleContext, IsLawful}
 use Rattle.validate_visit.specs.declared.op.Op.{Op}
+use Rattle.validation_rules.specs.Context.{Context}
 use Rattle.validation_rules.specs.Operators.{operator, operators}
 use Rattle.validation_rules.specs.Static.{Frame, State, start, step, step_in, state_before, IsAccepted, frame_count}
 use Rattle.validation_rules.proofs.Steps.{and_then_given}
@@ -19,11 +23,12 @@ use Rattle.validate_stacks.specs.State.{BodyState, body_context, IsStarting, IsV
 use Rattle.validate_stacks.specs.Visits.{step_body, MayVisit, Meets}
 use Rattle.validation_rules.specs.Static.{RowFails}
 use Rattle.validate_stacks.proofs.Validity.{kept_on}
-use Rattle.validate_operators.specs.Runs.{without_offsets, IsAcceptedBody}
+use Rattle.validate_operators.specs.Runs.{without_offsets, body_before, IsAcceptedBody}
 use Rattle.validate_operators.proofs.Listed.{visited, visit_valid, visit_kept, no_frames, safe_accepted}
 use Rattle.module_check.specs.Accepted.{AreAcceptedOperators}
 use Rattle.module_check.specs.Constant.{each_may_stand}
-use Rattle.module_check.specs.Refusals.{IsInvalid, IsVector}
+use Rattle.module_check.specs.Faults.{IsUnreadable, IsInvalidThere, IsFault, ReachFault}
+use Rattle.module_check.specs.Refusals.{IsInvalid, IsRefusal, IsRefusedFor, IsVector}
 use Rattle.module_check.specs.declared.verdict.CheckError.{CheckError}
 use Rattle.module_check.specs.declared.verdict.CheckError.TheVariants.{Unread, Refused}
 use Rattle.module_check.specs.Safe.{AreSafeOperators}
@@ -44,6 +49,10 @@ no_step md op v e = ap (λ fs. step_in (body_context md v) (operator (body_conte
 
 not_both : (b : Bool) → b ≡ true → b ≡ false → ⊥
 not_both b is other = absurd cc
+
+-- what an operator comes to in a state doesn't ask for the present one
+fault_of_kept : (md : ModuleContext) (types : CanonicalTypes) (may : Op → Bool) (v w : BodyState) (s : State) (bytes : List ℕ) (e : CheckError) → IsKept v w → IsFault (body_context md w) types may s bytes e → IsFault (body_context md v) types may s bytes e
+fault_of_kept md types may v w s bytes e kept f = subst (λ (x : BodyState). IsFault (body_context md x) types may s bytes e) kept f
 
 module _ (md : ModuleContext) (types : CanonicalTypes) (may : Op → Bool) where
   -- the first of some accepted operators, and the others
@@ -87,8 +96,8 @@ module _ (md : ModuleContext) (types : CanonicalTypes) (may : Op → Bool) where
         rows_hold = (rows.0, ap (λ o. option_and_then (λ (s : State). state_before cx code s (length code)) o) row ∙ rows.1);
       }
 
-  vector_in_front : (v w : BodyState) (op : Op) (offset : ℕ) (bytes left : List ℕ) → read_as types bytes ≡ Some (op, left) → may op ≡ true → step_over md op v ≡ Some w.present → IsKept v w → ReachVector md types may w left → ReachVector md types may v bytes
-  vector_in_front v w op offset bytes left read stands row kept a =
+  fault_in_front : (v w : BodyState) (op : Op) (offset : ℕ) (bytes left : List ℕ) (e : CheckError) → read_as types bytes ≡ Some (op, left) → may op ≡ true → step_over md op v ≡ Some w.present → IsKept v w → ReachFault md types may w left e → ReachFault md types may v bytes e
+  fault_in_front v w op offset bytes left e read stands row kept a =
       let cx = body_context md v in
       let code = operators cx (without_offsets a.ops) in
       let rows : state_before cx code w.present (length a.ops) ≡ Some a.state = subst (λ (x : BodyState). state_before (body_context md x) (operators (body_context md x) (without_offsets a.ops)) w.present (length a.ops) ≡ Some a.state) kept a.rows_hold in
@@ -99,8 +108,7 @@ module _ (md : ModuleContext) (types : CanonicalTypes) (may : Op → Bool) where
         each_stands = and_from (may op) (each_may_stand may a.ops) stands a.each_stands;
         state = a.state;
         rows_hold = ap (λ o. option_and_then (λ (s : State). state_before cx code s (length a.ops)) o) row ∙ rows;
-        is_open = a.is_open;
-        begins = a.begins;
+        is_fault = fault_of_kept md types may v w a.state a.behind e kept a.is_fault;
       }
 
   behind_first : (v w : BodyState) (op : Op) (bytes left : List ℕ) → v.present.frames ≢ [] → read_as types bytes ≡ Some (op, left) → step_over md op v ≡ Some w.present → IsKept v w → AreAcceptedOperators md types may v bytes → AreAcceptedOperators md types may w left
@@ -148,10 +156,78 @@ step_none : (v : BodyState) (o : Option State) → option_map (λ (s : State). r
 step_none v None h = refl
 step_none v (Some s) h = absurd cc
 
-pub unaccepted : (md : ModuleContext) (types : CanonicalTypes) (may : Op → Bool) (v : BodyState) (bytes left : List ℕ) (op : Op) → v.present.frames ≢ [] → read_as types bytes ≡ Some (unplaced op, left) → RowFails (step_body md (λ cx. operator cx op) v) → ¬ AreAcceptedOperators md types may v bytes
-unaccepted md types may v bytes left op opened read fails =
-    unfit md types may v bytes left (unplaced op) opened read
-    (ap (λ o. step (body_context md v) o v.present) (same_operator (body_context md v) op) ∙ step_none v (step_over md op v) fails)
+pub row_fails : (md : ModuleContext) (v : BodyState) (op : Op) → RowFails (step_body md (λ cx. operator cx op) v) → RowFails (step_over md (unplaced op) v)
+row_fails md v op fails = ap (λ o. step (body_context md v) o v.present) (same_operator (body_context md v) op) ∙ step_none v (step_over md op v) fails
+
+-- ---- what is told where something isn't accepted
+
+-- a refusal for one reason is one for what follows of it
+pub refused_for : (P Q : Type 0) (e : CheckError) → (P → Q) → IsRefusedFor P e → IsRefusedFor Q e
+refused_for P Q (Unread e) f refused = refused
+refused_for P Q (Refused e) f refused = λ memory. f (refused memory)
+
+-- what is invalid is told by a refusal
+pub told_invalid : (cx : Context) (types : CanonicalTypes) (may : Op → Bool) (s : State) (bytes : List ℕ) (e : CheckError) → IsInvalid e → IsInvalidThere cx types may s bytes → IsFault cx types may s bytes e
+told_invalid cx types may s bytes (Unread e) invalid there = absurd invalid
+told_invalid cx types may s bytes (Refused e) invalid there = λ memory. there
+
+-- so is an operator that is refused
+pub told_refused : (md : ModuleContext) (types : CanonicalTypes) (may : Op → Bool) (v : BodyState) (bytes left : List ℕ) (op : Op) (e : CheckError) → v.present.frames ≢ [] → read_as types bytes ≡ Some (op, left) → IsRefusedFor ((may op ≡ false) ⊎ RowFails (step_over md op v)) e → IsFault (body_context md v) types may v.present bytes e
+told_refused md types may v bytes left op (Unread e) opened read refused = absurd refused
+told_refused md types may v bytes left op (Refused e) opened read refused = λ memory. inr (inl (opened, record { op = op; left = left; is_read = read; fails = refused memory }))
+
+pub unreadable : (types : CanonicalTypes) (cause : Cause) (bytes : List ℕ) → (cause ≢ OutOfMemory → read_as types bytes ≡ None) → (cause ≡ VectorOperator → BeginVector bytes) → IsUnreadable types cause bytes
+unreadable types (Malformed fault) bytes none vector = none (λ e. absurd cc)
+unreadable types VectorOperator bytes none vector = (none (λ e. absurd cc), vector refl)
+unreadable types OutOfMemory bytes none vector = tt
+
+-- where a fault stands, nothing is accepted
+not_there : (md : ModuleContext) (types : CanonicalTypes) (may : Op → Bool) (v : BodyState) (bytes : List ℕ) → IsInvalidThere (body_context md v) types may v.present bytes → ¬ AreAcceptedOperators md types may v bytes
+not_there md types may v bytes (inl (opened, ended)) = unclosed md types may v bytes opened ended
+not_there md types may v bytes (inr (inl (opened, r))) = elim r.fails [
+  | inl stands ↦ unconstant md types may v bytes r.left r.op opened r.is_read stands
+  | inr fails ↦ unfit md types may v bytes r.left r.op opened r.is_read fails
+]
+not_there md types may v bytes (inr (inr (closed, more))) = unending md types may v bytes closed more
+
+not_read : (types : CanonicalTypes) (cause : Cause) (bytes : List ℕ) → cause ≢ OutOfMemory → IsUnreadable types cause bytes → read_as types bytes ≡ None
+not_read types (Malformed fault) bytes refusal none = none
+not_read types VectorOperator bytes refusal none = none.0
+not_read types OutOfMemory bytes refusal none = absurd (refusal refl)
+
+not_at_fault : (md : ModuleContext) (types : CanonicalTypes) (may : Op → Bool) (v : BodyState) (bytes : List ℕ) (e : CheckError) → IsFault (body_context md v) types may v.present bytes e → IsRefusal e → ¬ AreAcceptedOperators md types may v bytes
+not_at_fault md types may v bytes (Unread e) f refusal = unread md types may v bytes f.0 (not_read types e.cause bytes refusal f.1)
+not_at_fault md types may v bytes (Refused e) f refusal = not_there md types may v bytes (f refusal)
+
+not_behind : (md : ModuleContext) (types : CanonicalTypes) (may : Op → Bool) (e : CheckError) (behind : List ℕ) (s : State) (ops : List (Op × ℕ)) (v : BodyState) (bytes : List ℕ) → AreOperators types bytes (without_offsets ops) behind → body_before md v ops (length ops) ≡ Some s → IsFault (body_context md v) types may s behind e → IsRefusal e → ¬ AreAcceptedOperators md types may v bytes
+not_behind md types may e behind s [] v bytes read rows f refusal =
+    let here = subst (λ (x : State). IsFault (body_context md v) types may x behind e) (sym (some_same v.present s rows)) f in
+    not_at_fault md types may v bytes e (subst (λ b. IsFault (body_context md v) types may v.present b e) (sym read) here) refusal
+not_behind md types may e behind s (p ∷ ops) v bytes read rows f refusal = λ a.
+    let cx = body_context md v in
+    let m = and_then_given (step_over md p.0 v) (λ (t : State). state_before cx (operators cx (without_offsets ops)) t (length ops)) s rows in
+    let opened : v.present.frames ≢ [] = λ closed. none_or_some m.0 (sym (no_step md p.0 v closed) ∙ m.1) in
+    let next : BodyState = record v { present = m.0 } in
+    not_behind md types may e behind s ops next read.0 read.2 m.2 f refusal
+    (behind_first md types may v next p.0 bytes read.0 opened read.1 m.1 refl a)
+
+-- behind accepted operators too
+pub not_reached : (md : ModuleContext) (types : CanonicalTypes) (may : Op → Bool) (v : BodyState) (bytes : List ℕ) (e : CheckError) → ReachFault md types may v bytes e → IsRefusal e → ¬ AreAcceptedOperators md types may v bytes
+not_reached md types may v bytes e r refusal = not_behind md types may e r.behind r.state r.ops v bytes r.are_read r.rows_hold r.is_fault refusal
+
+-- a vector operator that is told stands there
+pub vector_reached : (md : ModuleContext) (types : CanonicalTypes) (may : Op → Bool) (v : BodyState) (bytes : List ℕ) (e : CheckError) → ReachFault md types may v bytes e → IsVector e → ReachVector md types may v bytes
+vector_reached md types may v bytes (Unread e) r vector = record {
+  ops = r.ops;
+  behind = r.behind;
+  are_read = r.are_read;
+  each_stands = r.each_stands;
+  state = r.state;
+  rows_hold = r.rows_hold;
+  is_open = r.is_fault.0;
+  begins = (subst (λ cause. IsUnreadable types cause r.behind) vector r.is_fault.1).1;
+}
+vector_reached md types may v bytes (Refused e) r vector = absurd vector
 
 -- what follows of each error follows of the one that there is
 pub for_some : {A : Type 0} → (o : Option A) (P Q : A → Type 0) → ((a : A) → P a → Q a) → IfSome o P → IfSome o Q
@@ -166,14 +242,10 @@ pub some_or_none : {A : Type 0} → (o : Option A) → IsSome o → o ≡ None �
 some_or_none None some none = absurd cc
 some_or_none (Some a) some none = absurd cc
 
--- what is invalid is no vector operator
-pub no_vector : (e : CheckError) → IsInvalid e → ¬ IsVector e
-no_vector (Unread e) invalid vector = invalid
-no_vector (Refused e) invalid vector = vector
-
-pub no_vector_in : {T : Type 0} → (P : Type 0) → (r : Result T CheckError) → IfErr r IsInvalid → IfErr r (λ e. IsVector e → P)
-no_vector_in P (Ok x) h = h
-no_vector_in P (Err e) h = λ vector. absurd (no_vector e h vector)
+-- what follows of what is left and of each error that says so
+pub told_in : {T : Type 0} → (left : Type 0) (X : CheckError → Type 0) → (r : Result T CheckError) → OnErr r left → IfErr r IsInvalid → ((e : CheckError) → IsInvalid e → left → X e) → IfErr r X
+told_in left X (Ok x) more invalid f = tt
+told_in left X (Err e) more invalid f = f e invalid more
 
 pub none_left : (bytes : List ℕ) → length bytes ≡ 0 → bytes ≡ []
 none_left [] h = refl
@@ -181,11 +253,11 @@ none_left (b ∷ bytes) h = absurd cc
 
 -- ---- so far
 
--- the state u is reached by operators that were accepted: from v on these bytes are accepted exactly if those that
--- are left are from u on, and reach a vector operator if those do
+-- the state u is reached by operators that were accepted: from v on these bytes are accepted if those that are left are
+-- from u on, and reach a fault if those do
 pub record IsBehind (md : ModuleContext) (types : CanonicalTypes) (may : Op → Bool) (v u : BodyState) (bytes left : List ℕ) : Type 0 where
-  pub same : AreAcceptedOperators md types may v bytes ↔ AreAcceptedOperators md types may u left
-  pub vector : ReachVector md types may u left → ReachVector md types may v bytes
+  pub accepted : AreAcceptedOperators md types may u left → AreAcceptedOperators md types may v bytes
+  pub fault : (e : CheckError) → ReachFault md types may u left e → ReachFault md types may v bytes e
   pub valid : IsValidBody md u
   pub kept : IsKept v u
 
@@ -199,7 +271,7 @@ open_at_start s ty is e = let clash : (start ty).frames ≡ [] = sym (ap (λ (x 
 
 pub at_start : (md : ModuleContext) (types : CanonicalTypes) (may : Op → Bool) (v : BodyState) (bytes : List ℕ) → IsStarting md v → IsOpenBehind md types may v v bytes bytes
 at_start md types may v bytes s = record {
-  behind = record { same = ((λ a. a), (λ a. a)); vector = λ a. a; valid = s.is_valid; kept = refl };
+  behind = record { accepted = λ a. a; fault = λ e a. a; valid = s.is_valid; kept = refl };
   is_open = open_at_start v.present s.block_type s.one_frame;
 }
 
@@ -224,33 +296,29 @@ module _ (md : ModuleContext) (types : CanonicalTypes) (may : Op → Bool) (v : 
       ap (λ o. step (body_context md u) o u.present) (same_operator (body_context md u) op) ∙ visited md op offset u w x m in
       let kept = visit_kept md _ _ u w _ m in
       record {
-        same = (
-          λ a. behind_first md types may u w (unplaced op) left rest b.is_open e row kept (b.behind.same.0 a),
-          λ a. b.behind.same.1 (in_front md types may u w (unplaced op) offset left rest e stands row kept a),
-        );
-        vector = λ a. b.behind.vector (vector_in_front md types may u w (unplaced op) offset left rest e stands row kept a);
+        accepted = λ a. b.behind.accepted (in_front md types may u w (unplaced op) offset left rest e stands row kept a);
+        fault = λ error a. b.behind.fault error (fault_in_front md types may u w (unplaced op) offset left rest error e stands row kept a);
         valid = visit_valid md _ _ u w _ m;
         kept = kept_on v u w b.behind.kept kept;
       }
 
-  -- what is left begins with a vector operator
-  pub at_vector : (u : BodyState) → IsOpenBehind md types may v u bytes left → BeginVector left → ReachVector md types may v bytes
-  at_vector u b begins = b.behind.vector (record {
+  -- what is told stands in what is left
+  pub at_fault : (u : BodyState) (e : CheckError) → IsBehind md types may v u bytes left → IsFault (body_context md u) types may u.present left e → ReachFault md types may v bytes e
+  at_fault u e b f = b.fault e (record {
     ops = [];
     behind = left;
     are_read = refl;
     each_stands = refl;
     state = u.present;
     rows_hold = refl;
-    is_open = b.is_open;
-    begins = begins;
+    is_fault = f;
   })
 
   -- the last was accepted, and nothing is left
   pub whole : (u : BodyState) (n : ℕ) → IsBehind md types may v u bytes left → left ≡ [] → n ≡ frame_count u.present → n ≡ 0 → IsLawful md → AreSafeOperators md types may v bytes
   whole u n b e c z laws =
       let none = no_frames u.present.frames (sym c ∙ z) in
-      let accepted = b.same.1 (record {
+      let accepted = b.accepted (record {
         ops = [];
         are_read = e;
         each_stands = refl;
@@ -259,5 +327,5 @@ module _ (md : ModuleContext) (types : CanonicalTypes) (may : Op → Bool) (v : 
       record { accepted = accepted; are_safe = λ ty s. safe_accepted md v accepted.ops ty laws s accepted.rows_hold }
 
   -- the last was accepted, and something is left
-  pub not_whole : (u : BodyState) (n : ℕ) → IsBehind md types may v u bytes left → left ≢ [] → n ≡ frame_count u.present → n ≡ 0 → ¬ AreAcceptedOperators md types may v bytes
-  not_whole u n b more c z = λ a. unending md types may u left (no_frames u.present.frames (sym c ∙ z)) more (b.same.0 a)
+  pub behind_end : (u : BodyState) (n : ℕ) → n ≡ frame_count u.present → n ≡ 0 → left ≢ [] → IsInvalidThere (body_context md u) types may u.present left
+  behind_end u n c z more = inr (inr (no_frames u.present.frames (sym c ∙ z), more))

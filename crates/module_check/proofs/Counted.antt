@@ -1,5 +1,5 @@
 -- A valid module has few functions, and what stands in its row of items is accepted where the module is.
-use Rattle.std.proofs.Common.{◌≡◌, ◌∙◌, ℕ, ◌+◌, ◌-◌, ◌^◌, ◌≤◌, ◌<◌, length, slice_get, Some, ap, sym, subst, arith, get_or}
+use Rattle.std.proofs.Common.{◌≡◌, ◌∙◌, ℕ, ◌+◌, ◌-◌, ◌^◌, ◌≤◌, ◌<◌, length, Some, ap, sym, subst, arith, get_or}
 use Rattle.std.proofs.lemmas.Bool.{and_parts, leb-true}
 use Rattle.std.proofs.lemmas.Option.{slice_get-get_or}
 use Rattle.binary_modules.specs.declared.initializers.ConstantExpression.{ConstantExpression}

@@ -2,6 +2,7 @@ pub mod Begun
 pub mod Behind
 pub mod Counted
 pub mod FirstBytes
+pub mod FirstFaults
 pub mod Forms
 pub mod Groups
 pub mod Row

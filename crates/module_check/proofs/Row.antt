@@ -2,10 +2,11 @@
 use Rattle.std.proofs.Common.{◌≡◌, ◌≤◌, ◌<◌, ◌+◌, ◌-◌, ◌^◌, ℕ, ap, get_or, sym, subst, ◌∙◌, arith}
 use Rattle.std.proofs.lemmas.Bool.{cases_lt}
 use Rattle.std.proofs.lemmas.Option.{get_or_from_slice_get, slice_get_within}
-use mathlib.Core.Logic.{◌⊎◌, inl, inr}
+use mathlib.Core.Logic.{inl, inr}
 use Rattle.binary_modules.specs.declared.initializers.ConstantExpression.{ConstantExpression}
-use Rattle.module_check.specs.Items.{IsRefusedAt, IsSafeAt, IsUncoveredAt, AreSafeBelow, expression_count, function_at, item_count}
-use Rattle.module_check.specs.Loaded.{declarations, IsAcceptedExpression, IsAcceptedFunction, IsSafeExpression, IsSafeFunction, IsSafeModule, IsUncoveredExpression, IsUncoveredFunction, IsValid}
+use Rattle.module_check.specs.Items.{IsRefusedAt, IsSafeAt, AreSafeBelow, expression_count, function_at, item_count}
+use Rattle.module_check.specs.Loaded.{declarations, IsAcceptedExpression, IsAcceptedFunction, IsSafeExpression, IsSafeFunction, IsSafeModule, IsValid}
+use Rattle.module_check.specs.UncoveredModule.{IsUncoveredAt, IsUncoveredExpression, IsUncoveredFunction}
 use Rattle.module_check.specs.declared.loaded.LoadedModule.{LoadedModule}
 use Rattle.module_check.proofs.Counted.{few_functions}
 

@@ -2,7 +2,6 @@
 use Rattle.std.specs.Prelude.{◌≡◌, ℕ, ◌+◌, ◌-◌, ◌^◌, ◌≤◌, ◌<◌, Some, length, slice_get}
 use Rattle.binary_modules.specs.declared.initializers.ConstantExpression.{ConstantExpression}
 use Rattle.module_check.specs.Loaded.{IsAcceptedExpression, IsAcceptedFunction, IsSafeFunction, IsSafeExpression}
-use Rattle.module_check.specs.Loaded.{IsUncoveredExpression, IsUncoveredFunction}
 use Rattle.module_check.specs.declared.loaded.LoadedModule.{LoadedModule}
 use Rattle.module_check.specs.declared.verdict.Item.{Item}
 use Rattle.module_check.specs.declared.verdict.Item.TheVariants.{Function, Expression}
@@ -41,17 +40,6 @@ pub record IsRefusedAt (m : LoadedModule) (place : ℕ) : Type 0 where
       → ¬ IsAcceptedExpression m e
   pub body : expression_count m ≤ place → function_at m place < 2 ^ 32
       → ¬ IsAcceptedFunction m (function_at m place)
-
--- What stands at this place of the row, if something does, isn't covered.
-pub record IsUncoveredAt (m : LoadedModule) (place : ℕ) : Type 0 where
-  pub expression : (e : ConstantExpression) → slice_get m.expressions.items place ≡ Some e
-      → IsUncoveredExpression m e
-  pub body : expression_count m ≤ place → function_at m place < 2 ^ 32
-      → IsUncoveredFunction m (function_at m place)
-
--- something in the row isn't covered
-abbrev pub HasUncovered : LoadedModule → Type 0
-HasUncovered m = (place : ℕ) × (place < item_count m) × IsUncoveredAt m place
 
 -- each of the first so many is safe
 abbrev pub AreSafeBelow : LoadedModule → ℕ → Type 0

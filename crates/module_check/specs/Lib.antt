@@ -2,6 +2,8 @@ pub mod Accepted
 pub mod Begin
 pub mod Constant
 pub mod EmptySections
+pub mod Faults
+pub mod FaultyModule
 pub mod FirstBytes
 pub mod Items
 pub mod Loaded
@@ -10,4 +12,5 @@ pub mod Safe
 pub mod Turns
 pub mod Unbodied
 pub mod Uncovered
+pub mod UncoveredModule
 pub mod Verdicts

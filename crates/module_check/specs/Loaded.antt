@@ -21,7 +21,6 @@ use Rattle.validate_types.specs.declared.types.ValType.{ValType}
 use Rattle.module_check.specs.Accepted.{IsAcceptedCode}
 use Rattle.module_check.specs.Constant.{may_stand}
 use Rattle.module_check.specs.Safe.{IsSafeCode}
-use Rattle.module_check.specs.Uncovered.{HasVector}
 use Rattle.validate_visit.specs.declared.body.BodyKind.TheVariants.{Function, Expression}
 use Rattle.module_check.specs.declared.loaded.LoadedModule.{LoadedModule}
 
@@ -97,23 +96,6 @@ pub record IsSafeExpression (m : LoadedModule) (e : ConstantExpression) : Type 0
   pub types : CanonicalTypes
   pub has_place : HasPlace m e value_type types
   pub is_safe : IsSafeCode (declared m) (operator_features (features_of m)) types
-      (Expression value_type) (is_constant_in (features_of m) (declarations m) e.place) e.bytes.left
-
--- The function's body isn't covered: a vector operator stands where all operators before it are accepted.
-pub record IsUncoveredFunction (m : LoadedModule) (function : ℕ) : Type 0 where
-  pub type_index : ℕ
-  pub body : Unread
-  pub types : CanonicalTypes
-  pub is_body : HasBody m function type_index body types
-  pub has_vector : HasVector (declared m) (operator_features (features_of m)) types
-      (Function type_index) (may_stand None) body.left
-
--- The same of a constant expression.
-pub record IsUncoveredExpression (m : LoadedModule) (e : ConstantExpression) : Type 0 where
-  pub value_type : ValType
-  pub types : CanonicalTypes
-  pub has_place : HasPlace m e value_type types
-  pub has_vector : HasVector (declared m) (operator_features (features_of m)) types
       (Expression value_type) (is_constant_in (features_of m) (declarations m) e.place) e.bytes.left
 
 -- each of the module's first bodies, as many as these, is type safe, where its function's index has 32 bits

@@ -1,6 +1,7 @@
 -- When an answer other than yes is a no (the crate's own).
 use Rattle.std.specs.Prelude.{◌≡◌, ◌≢◌, false}
-use Rattle.binary_operators.specs.declared.error.Cause.TheVariants.{OutOfMemory, VectorOperator}
+use Rattle.binary_operators.specs.declared.error.Cause.TheVariants.{Malformed, OutOfMemory, VectorOperator}
+use Rattle.binary_operators.specs.declared.error.Fault.{Fault}
 use Rattle.module_check.specs.declared.verdict.CheckError.{CheckError}
 use Rattle.module_check.specs.declared.verdict.CheckError.TheVariants.{Unread, Refused}
 
@@ -18,3 +19,13 @@ IsInvalid (Refused e) = e.wants_memory ≡ false
 abbrev pub IsVector : CheckError → Type 0
 IsVector (Unread e) = e.cause ≡ VectorOperator
 IsVector (Refused e) = ⊥
+
+-- it isn't of the binary format
+abbrev pub IsMalformed : CheckError → Type 0
+IsMalformed (Unread e) = (fault : Fault) × (e.cause ≡ Malformed fault)
+IsMalformed (Refused e) = ⊥
+
+-- the validator refuses it for this, unless memory ran out
+abbrev pub IsRefusedFor : Type 0 → CheckError → Type 0
+IsRefusedFor reason (Unread e) = ⊥
+IsRefusedFor reason (Refused e) = e.wants_memory ≡ false → reason

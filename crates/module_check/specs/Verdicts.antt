@@ -33,6 +33,10 @@ outcome_of (Malformed e) = IsMalformed
 outcome_of OutOfMemory = IsOutOfMemory
 outcome_of (NotCovered offset) = IsNotCovered
 
+-- it isn't the verdict of what isn't covered
+abbrev pub IsCovered : Verdict → Type 0
+IsCovered v = (offset : ℕ) → v ≢ NotCovered offset
+
 -- how grave it is
 abbrev pub weight : Outcome → ℕ
 weight Valid = 0

@@ -1,15 +1,17 @@
 //! The check of one body.
 
-ghost use Rattle.std.specs.Prelude.{◌≡◌, ◌≢◌, ℕ, true, OnOk, IfErr};
+ghost use Rattle.std.specs.Prelude.{◌≡◌, ◌≢◌, ◌⊎◌, ℕ, true, OnOk, IfErr};
 ghost use Rattle.validate_operators.specs.Start.{state};
 ghost use Rattle.validate_stacks.specs.State.{IsStarting};
-ghost use Rattle.validate_operators.specs.Begin.{IsBodyStart};
+ghost use Rattle.validate_operators.specs.Begin.{IsBodyStart, CannotStart};
 ghost use Rattle.module_check.specs.Accepted.{IsAcceptedCode};
 ghost use Rattle.module_check.specs.Constant.{may_stand};
-ghost use Rattle.module_check.specs.Refusals.{IsRefusal, IsVector};
+ghost use Rattle.module_check.specs.Faults.{HasFirstFault, IsMalformedCode, IsRefusedCode};
+ghost use Rattle.module_check.specs.Refusals.{IsRefusal};
 ghost use Rattle.module_check.specs.Safe.{IsSafeCode};
 ghost use Rattle.module_check.specs.Uncovered.{HasVector};
-ghost use Rattle.module_check.specs.declared.verdict.Verdict.TheVariants.{Accepted, NotCovered, OutOfMemory};
+ghost use Rattle.module_check.specs.declared.verdict.Verdict.TheVariants.{Accepted, Refused, Malformed, NotCovered, OutOfMemory};
+ghost use Rattle.validate_types.specs.declared.error.Error.{Error};
 ghost use Rattle.validate_types.specs.Features.{has, simd};
 ghost use Rattle.validate_types.specs.declared.features.WasmFeatures.{WasmFeatures};
 
@@ -50,14 +52,10 @@ fn check_body_from<R: WasmModuleResources>(
         → IsBodyStart (R.context context.now.resources.now) features kind (state v.old)
         → IsSafeCode (R.context context.now.resources.now) features context.now.types kind
         (may_stand context.now.constant) reader.old.left) }
-    ensures refused { IfErr result (λ e. IsRefusal e → (features : WasmFeatures)
+    ensures fault { IfErr result (λ e. IsRefusal e → (features : WasmFeatures)
         → IsBodyStart (R.context context.now.resources.now) features kind (state v.old)
-        → ¬ IsAcceptedCode (R.context context.now.resources.now) features context.now.types kind
-        (may_stand context.now.constant) reader.old.left) }
-    ensures vector { IfErr result (λ e. IsVector e → (features : WasmFeatures)
-        → IsBodyStart (R.context context.now.resources.now) features kind (state v.old)
-        → HasVector (R.context context.now.resources.now) features context.now.types kind
-        (may_stand context.now.constant) reader.old.left) }
+        → HasFirstFault (R.context context.now.resources.now) features context.now.types kind
+        (may_stand context.now.constant) reader.old.left e) }
 {
     match kind {
         BodyKind::Function(_) => {
@@ -97,9 +95,16 @@ pub fn check_body<R: WasmModuleResources>(
     ensures refused { result ≢ Accepted → result ≢ OutOfMemory
         → ¬ IsAcceptedCode (R.context context.now.resources.now) context.now.features.now context.now.types
         kind (may_stand context.now.constant) reader.old.left }
-    ensures covered { (offset : ℕ) → result ≡ NotCovered offset → has context.now.features.now simd ≡ true }
-    ensures vector { (offset : ℕ) → result ≡ NotCovered offset
+    ensures proposal { (offset : ℕ) → result ≡ NotCovered offset → has context.now.features.now simd ≡ true }
+    ensures uncovered { (offset : ℕ) → result ≡ NotCovered offset
         → HasVector (R.context context.now.resources.now) context.now.features.now context.now.types kind
+        (may_stand context.now.constant) reader.old.left }
+    ensures malformed { (e : Error) → result ≡ Malformed e
+        → IsMalformedCode (R.context context.now.resources.now) context.now.features.now context.now.types kind
+        (may_stand context.now.constant) reader.old.left }
+    ensures invalid { (e : Error) → result ≡ Refused e
+        → CannotStart (R.context context.now.resources.now) context.now.features.now kind
+        ⊎ IsRefusedCode (R.context context.now.resources.now) context.now.features.now context.now.types kind
         (may_stand context.now.constant) reader.old.left }
 {
     let alloc = buffers.allocator();

@@ -8,6 +8,7 @@ ghost use Rattle.binary_operators.specs.Unplaced.{unplaced};
 ghost use Rattle.binary_operators.specs.Vectors.{BeginVector};
 ghost use Rattle.binary_operators.specs.declared.error.Cause.TheVariants.{OutOfMemory, VectorOperator};
 ghost use Rattle.module_check.specs.Begin.{DefinesRead};
+ghost use Rattle.module_check.specs.Refusals.{IsVector};
 ghost use Rattle.validate_operators.specs.Start.{state};
 ghost use Rattle.validate_stacks.specs.State.{IsStarting};
 
@@ -89,6 +90,7 @@ impl<'m> CodeReader<'m> {
         ensures defined { OnOk result (DefinesRead (R.context resources.now) self.old.types self.old.reader.left
             self.new.reader.left (state v.old) (state v.new)) }
         ensures types { self.new.types ≡ self.old.types }
+        ensures covered { IfErr result (λ e. ¬ IsVector e) }
     {
         define_locals(v, resources, &mut self.reader, self.types)
     }

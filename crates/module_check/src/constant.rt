@@ -1,8 +1,8 @@
 //! Which operators may stand in a body, beside what their rows ask.
 
-ghost use Rattle.std.specs.Prelude.{◌≡◌, true, false, Some, OnOk, IfErr, OnErr};
+ghost use Rattle.std.specs.Prelude.{◌≡◌, true, false, Some, OnOk, IfErr};
 ghost use Rattle.module_check.specs.Constant.{may_stand};
-ghost use Rattle.module_check.specs.Refusals.{IsVector};
+ghost use Rattle.module_check.specs.Refusals.{IsRefusedFor};
 
 use crate::operator_names::operator_name;
 use crate::verdict::CheckError;
@@ -68,8 +68,7 @@ pub(crate) fn check_constant(
     offset: u64,
 ) -> Result<(), CheckError>
     ensures constant { OnOk result (may_stand (Some at.now) op.now ≡ true) }
-    ensures refused { OnErr result (may_stand (Some at.now) op.now ≡ false) }
-    ensures covered { IfErr result (λ e. ¬ IsVector e) }
+    ensures refused { IfErr result (IsRefusedFor (may_stand (Some at.now) op.now ≡ false)) }
 {
     match check_constant_operator(&at.context, *op) {
         Ok(()) => Ok(()),

@@ -6,11 +6,10 @@ ghost use Rattle.validate_stacks.specs.Visits.{step_body, MayVisit, Meets};
 ghost use Rattle.validation_rules.specs.Static.{RowFails};
 ghost use Rattle.validation_rules.specs.Operators.{operator};
 ghost use Rattle.validate_operators.specs.Start.{state, stacks_of};
-ghost use Rattle.module_check.specs.Accepted.{AreAcceptedOperators};
 ghost use Rattle.module_check.specs.Constant.{may_stand};
-ghost use Rattle.module_check.specs.Refusals.{IsRefusal, IsVector};
+ghost use Rattle.module_check.specs.Faults.{ReachFault};
+ghost use Rattle.module_check.specs.Refusals.{IsRefusedFor};
 ghost use Rattle.module_check.specs.Safe.{AreSafeOperators};
-ghost use Rattle.module_check.specs.Uncovered.{ReachVector};
 
 use crate::body::BodyContext;
 use crate::constant::{ConstantPlace, check_constant};
@@ -33,9 +32,8 @@ fn check_operator<R: WasmModuleResources>(
     ensures row { OnOk result (Meets (R.context resources.now) (λ cx. operator cx op.now) offset (state v.old) (Ok tt)
         (state v.new)) }
     ensures stands { OnOk result (may_stand (Some place.now) op.now ≡ true) }
-    ensures refused { IfErr result (λ e. IsRefusal e → (may_stand (Some place.now) op.now ≡ false)
-        ⊎ RowFails (step_body (R.context resources.now) (λ cx. operator cx op.now) (state v.old))) }
-    ensures covered { IfErr result (λ e. ¬ IsVector e) }
+    ensures refused { IfErr result (IsRefusedFor ((may_stand (Some place.now) op.now ≡ false)
+        ⊎ RowFails (step_body (R.context resources.now) (λ cx. operator cx op.now) (state v.old)))) }
 {
     check_constant(place, op, offset)?;
     v.check_ref(resources, offset, op)?;
@@ -54,11 +52,8 @@ pub(crate) fn check_constant_operators<R: WasmModuleResources>(
     requires { IsStarting (R.context context.now.resources.now) (state v.old) }
     ensures accepted { OnOk result (AreSafeOperators (R.context context.now.resources.now) context.now.types
         (may_stand (Some place.entry)) (state v.old) reader.old.left) }
-    ensures refused { IfErr result (λ e. IsRefusal e
-        → ¬ AreAcceptedOperators (R.context context.now.resources.now) context.now.types
+    ensures fault { IfErr result (ReachFault (R.context context.now.resources.now) context.now.types
         (may_stand (Some place.entry)) (state v.old) reader.old.left) }
-    ensures vector { IfErr result (λ e. IsVector e → ReachVector (R.context context.now.resources.now)
-        context.now.types (may_stand (Some place.entry)) (state v.old) reader.old.left) }
 {
     for _ in 0..reader.bytes_left() {
         if reader.is_at_end() {

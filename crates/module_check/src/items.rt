@@ -1,8 +1,9 @@
 //! What a module has to check, in one row: first its constant expressions, then the bodies of its functions.
 
-ghost use Rattle.std.specs.Prelude.{◌≡◌, ◌≢◌, ◌≤◌, ◌<◌, ℕ};
-ghost use Rattle.module_check.specs.Items.{IsItemAt, IsRefusedAt, IsSafeAt, IsUncoveredAt, item_count};
+ghost use Rattle.std.specs.Prelude.{◌≡◌, ◌≢◌, ◌<◌, ℕ};
+ghost use Rattle.module_check.specs.Items.{IsItemAt, IsRefusedAt, IsSafeAt, item_count};
 ghost use Rattle.module_check.specs.Loaded.{IsAcceptedModule};
+ghost use Rattle.module_check.specs.UncoveredModule.{IsUncoveredAt};
 ghost use Rattle.module_check.specs.declared.verdict.Verdict.TheVariants.{Accepted, NotCovered, OutOfMemory};
 
 use crate::buffers::BodyBuffers;
@@ -36,7 +37,7 @@ pub fn check_item(module: &LoadedModule<'_>, place: usize, buffers: &mut BodyBuf
     ensures refused { result.verdict ≢ Accepted → result.verdict ≢ OutOfMemory → IsRefusedAt module.now place }
     ensures unaccepted { place < item_count module.now → result.verdict ≢ Accepted → result.verdict ≢ OutOfMemory
         → ¬ IsAcceptedModule module.now }
-    ensures vector { (offset : ℕ) → result.verdict ≡ NotCovered offset → IsUncoveredAt module.now place }
+    ensures uncovered { (offset : ℕ) → result.verdict ≡ NotCovered offset → IsUncoveredAt module.now place }
 {
     let expressions = module.expressions();
     match expressions.get(place) {

@@ -1,6 +1,6 @@
 //! A module whose bodies are to be checked.
 
-ghost use Rattle.std.specs.Prelude.{◌≡◌, ◌≢◌, ◌≤◌, ◌<◌, ◌+◌, ◌^◌, ℕ, true, false, length, map, Some, None, IfSome, OnSome, IfOk, OnOk, IfErr};
+ghost use Rattle.std.specs.Prelude.{◌≡◌, ◌≢◌, ◌⊎◌, ◌≤◌, ◌<◌, ◌+◌, ◌^◌, ℕ, true, false, drop, length, map, Some, None, IfSome, OnSome, IfOk, IfErr};
 ghost use Rattle.binary_modules.specs.ContentsRead.{bytes_of as bytes_left};
 ghost use Rattle.binary_modules.specs.Kept.{told};
 ghost use Rattle.binary_modules.specs.Modules.{IsModule};
@@ -45,6 +45,7 @@ pub struct LoadedModule<'a> {
 }
 
 impl<'a> LoadedModule<'a> {
+    ghost use Rattle.binary_operators.specs.Vectors.{BeginVector};
     ghost use Rattle.binary_operators.specs.declared.types.CanonicalTypes.{CanonicalTypes};
     ghost use Rattle.module_check.specs.Constant.{may_stand};
     ghost use Rattle.module_check.specs.Loaded.{declarations, features_of, bytes_of, declared};
@@ -53,10 +54,14 @@ impl<'a> LoadedModule<'a> {
     ghost use Rattle.module_check.specs.Unbodied.{DeclaresInModule, declared_by, features_of as features_alone};
     ghost use Rattle.module_check.specs.Loaded.{IsAcceptedFunction, IsAcceptedExpression};
     ghost use Rattle.module_check.specs.Loaded.{IsSafeFunction, IsSafeExpression};
-    ghost use Rattle.module_check.specs.Loaded.{IsUncoveredFunction, IsUncoveredExpression};
     ghost use Rattle.module_check.specs.Safe.{IsSafeCode};
     ghost use Rattle.module_check.specs.Uncovered.{HasVector};
-    ghost use Rattle.module_check.specs.declared.verdict.Verdict.TheVariants.{Refused, NotCovered, OutOfMemory};
+    ghost use Rattle.module_check.specs.UncoveredModule.{IsUncoveredFunction, IsUncoveredExpression};
+    ghost use Rattle.module_check.specs.Faults.{IsMalformedCode, IsRefusedCode};
+    ghost use Rattle.module_check.specs.FaultyModule.{IsMalformedFunction, IsRefusedFunction};
+    ghost use Rattle.module_check.specs.FaultyModule.{IsMalformedExpression, IsRefusedExpression};
+    ghost use Rattle.module_check.specs.declared.verdict.Verdict.TheVariants.{Refused, Malformed, NotCovered, OutOfMemory};
+    ghost use Rattle.validate_operators.specs.Begin.{CannotStart};
     ghost use Rattle.module_rules.specs.Features.{operator_features};
     ghost use Rattle.validate_types.specs.Features.{has, simd};
     ghost use Rattle.validate_types.specs.declared.error.Error.{Error};
@@ -64,7 +69,7 @@ impl<'a> LoadedModule<'a> {
     /// Reads a module, of which these are all the bytes, and checks that what it declares is valid under these
     /// proposals. An error is never `Accepted`. It is `Malformed` if the bytes aren't those of a module, `Refused` if
     /// what it declares isn't valid, or a constant expression has a vector operator other than `v128.const` and the
-    /// proposal of these is off, `NotCovered` if it is on, or `OutOfMemory`.
+    /// proposal of these is off, `NotCovered` with the offset of that operator if it is on, or `OutOfMemory`.
     pub fn new(
         alloc: Global,
         bytes: &'a [u8],
@@ -73,14 +78,16 @@ impl<'a> LoadedModule<'a> {
         ensures bytes { IfOk result (λ m. bytes_of m ≡ bytes.now) }
         ensures features { IfOk result (λ m. features_of m ≡ features) }
         ensures refused { IfErr result (λ verdict. verdict ≢ Accepted) }
-        ensures covered { IfErr result (λ verdict. (offset : ℕ) → verdict ≡ NotCovered offset
+        ensures proposal { IfErr result (λ verdict. (offset : ℕ) → verdict ≡ NotCovered offset
             → has (operator_features features) simd ≡ true) }
+        ensures uncovered { IfErr result (λ verdict. (offset : ℕ) → verdict ≡ NotCovered offset
+            → BeginVector (drop offset bytes.now)) }
     {
         match read_module(alloc, bytes) {
             Ok(module) => LoadedModule::of_module(alloc, bytes, features, module),
             Err(error) => {
                 let verdict = Verdict::of_read_error_in(alloc, error);
-                Err(verdict.under(&features.operator_features()))
+                Err(verdict.under(&features.operator_features()).within(bytes))
             }
         }
     }
@@ -268,12 +275,21 @@ impl<'a> LoadedModule<'a> {
             → AreTypesOf self.now types
             → ¬ IsAcceptedCode (declared self.now) (operator_features self.now.features) types kind
             (may_stand constant.entry) bytes.now.left }
-        ensures covered { (offset : ℕ) → result ≡ NotCovered offset
+        ensures proposal { (offset : ℕ) → result ≡ NotCovered offset
             → has (operator_features self.now.features) simd ≡ true }
-        ensures vector { (offset : ℕ) → result ≡ NotCovered offset → (types : CanonicalTypes)
+        ensures uncovered { (offset : ℕ) → result ≡ NotCovered offset → (types : CanonicalTypes)
             × AreTypesOf self.now types
             × HasVector (declared self.now) (operator_features self.now.features) types kind
             (may_stand constant.entry) bytes.now.left }
+        ensures malformed { (e : Error) → result ≡ Malformed e → (types : CanonicalTypes)
+            × AreTypesOf self.now types
+            × IsMalformedCode (declared self.now) (operator_features self.now.features) types kind
+            (may_stand constant.entry) bytes.now.left }
+        ensures invalid { (e : Error) → result ≡ Refused e → (types : CanonicalTypes)
+            × AreTypesOf self.now types
+            × (CannotStart (declared self.now) (operator_features self.now.features) kind
+            ⊎ IsRefusedCode (declared self.now) (operator_features self.now.features) types kind
+            (may_stand constant.entry) bytes.now.left) }
     {
         let mut reader = bytes.duplicate();
         let features = self.features.operator_features();
@@ -298,9 +314,11 @@ impl<'a> LoadedModule<'a> {
     pub fn check_function(&self, function: u32, buffers: &mut BodyBuffers) -> Verdict
         ensures safe { result ≡ Accepted → IsSafeFunction self.now function }
         ensures refused { result ≢ Accepted → result ≢ OutOfMemory → ¬ IsAcceptedFunction self.now function }
-        ensures covered { (offset : ℕ) → result ≡ NotCovered offset
+        ensures proposal { (offset : ℕ) → result ≡ NotCovered offset
             → has (operator_features (features_of self.now)) simd ≡ true }
-        ensures vector { (offset : ℕ) → result ≡ NotCovered offset → IsUncoveredFunction self.now function }
+        ensures uncovered { (offset : ℕ) → result ≡ NotCovered offset → IsUncoveredFunction self.now function }
+        ensures malformed { (e : Error) → result ≡ Malformed e → IsMalformedFunction self.now function }
+        ensures invalid { (e : Error) → result ≡ Refused e → IsRefusedFunction self.now function }
     {
         let Some(body) = self.body_of(function) else {
             return Verdict::Refused(unknown_function(0));
@@ -326,10 +344,12 @@ impl<'a> LoadedModule<'a> {
         ensures safe { result ≡ Accepted → IsSafeExpression self.now expression.now }
         ensures refused { result ≢ Accepted → result ≢ OutOfMemory
             → ¬ IsAcceptedExpression self.now expression.now }
-        ensures covered { (offset : ℕ) → result ≡ NotCovered offset
+        ensures proposal { (offset : ℕ) → result ≡ NotCovered offset
             → has (operator_features (features_of self.now)) simd ≡ true }
-        ensures vector { (offset : ℕ) → result ≡ NotCovered offset
+        ensures uncovered { (offset : ℕ) → result ≡ NotCovered offset
             → IsUncoveredExpression self.now expression.now }
+        ensures malformed { (e : Error) → result ≡ Malformed e → IsMalformedExpression self.now expression.now }
+        ensures invalid { (e : Error) → result ≡ Refused e → IsRefusedExpression self.now expression.now }
     {
         let place = expression.place;
         let Some(ty) = expression_type(&self.declared, place) else {

@@ -141,7 +141,7 @@ impl ModuleVerdict {
         ensures known { self.old.status ≤ 4 → self.new.status ≤ 4 }
         ensures counted { self.new.status ≢ 3 → (self.old.status ≢ 3)
             × (total self.old < 2 ^ 64 - 1 → total self.new ≡ total self.old + 1) }
-        ensures not_covered { self.new.status ≡ 4 → (self.old.status ≡ 4)
+        ensures uncovered { self.new.status ≡ 4 → (self.old.status ≡ 4)
             ⊎ ((offset : ℕ) × (verdict.now ≡ NotCovered offset)) }
     {
         self.count(verdict);

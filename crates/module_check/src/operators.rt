@@ -2,19 +2,18 @@
 
 ghost use Rattle.std.specs.Prelude.{◌≡◌, ◌≢◌, ℕ, List, [], true, false, Ok, Some, None, OnOk, IfOk, OnErr, IfErr, IfSome, IsSome};
 ghost use Rattle.binary_operators.specs.Functions.{locals};
-ghost use Rattle.binary_operators.specs.Vectors.{BeginVector, IsNoVector};
-ghost use Rattle.validate_stacks.specs.State.{BodyState, IsStarting};
+ghost use Rattle.binary_operators.specs.Vectors.{IsNoVector};
+ghost use Rattle.validate_stacks.specs.State.{BodyState, IsStarting, body_context};
 ghost use Rattle.validate_stacks.specs.Visits.{step_body, MayVisit, Meets};
 ghost use Rattle.validation_rules.specs.Static.{RowFails};
 ghost use Rattle.validation_rules.specs.Operators.{operator};
 ghost use Rattle.validate_operators.specs.Start.{state, stacks_of};
-ghost use Rattle.module_check.specs.Accepted.{AreAcceptedOperators};
 ghost use Rattle.module_check.specs.Begin.{DefinesGroup, DefinesRead};
 ghost use Rattle.module_check.specs.Constant.{may_stand};
-ghost use Rattle.module_check.specs.Refusals.{IsRefusal, IsInvalid, IsVector};
+ghost use Rattle.module_check.specs.Faults.{IsFault, ReachFault};
+ghost use Rattle.module_check.specs.Refusals.{IsRefusal, IsInvalid, IsRefusedFor, IsVector};
 ghost use Rattle.module_check.specs.Safe.{AreSafeOperators};
 ghost use Rattle.module_check.specs.Turns.{IsTurn};
-ghost use Rattle.module_check.specs.Uncovered.{ReachVector};
 
 use crate::body::BodyContext;
 use crate::common::passes_common;
@@ -113,10 +112,9 @@ fn is_any_accepted<R: WasmModuleResources>(
     ensures turn { result ≡ true → IsTurn (R.context context.now.resources.now) context.now.types reader.old.left
         reader.new.left (state v.old) (state v.new) }
     ensures told { result ≡ false → IsSome refusal.new }
-    ensures refused { result ≡ false → IfSome refusal.new (λ e. IsRefusal e
-        → ¬ AreAcceptedOperators (R.context context.now.resources.now) context.now.types (may_stand None)
-        (state v.old) reader.old.left) }
-    ensures vector { result ≡ false → IfSome refusal.new (λ e. IsVector e → BeginVector reader.old.left) }
+    ensures fault { result ≡ false → IfSome refusal.new (IsFault
+        (body_context (R.context context.now.resources.now) (state v.old)) context.now.types (may_stand None)
+        (state v.old).present reader.old.left) }
 {
     let offset = reader.offset();
     if reader.is_at_end() {
@@ -144,10 +142,9 @@ fn is_read_accepted<R: WasmModuleResources>(
     ensures turn { result ≡ true → IsTurn (R.context context.now.resources.now) context.now.types reader.old.left
         reader.new.left (state v.old) (state v.new) }
     ensures told { result ≡ false → IsSome refusal.new }
-    ensures refused { result ≡ false → IfSome refusal.new (λ e. IsRefusal e
-        → ¬ AreAcceptedOperators (R.context context.now.resources.now) context.now.types (may_stand None)
-        (state v.old) reader.old.left) }
-    ensures vector { result ≡ false → IfSome refusal.new (λ e. IsVector e → BeginVector reader.old.left) }
+    ensures fault { result ≡ false → IfSome refusal.new (IsFault
+        (body_context (R.context context.now.resources.now) (state v.old)) context.now.types (may_stand None)
+        (state v.old).present reader.old.left) }
 {
     passes_told(v, context.resources, reader) || is_any_accepted(v, context, reader, lists, refusal)
 }
@@ -166,10 +163,9 @@ fn is_lent_accepted<R: WasmModuleResources>(
     ensures turn { result ≡ true → IsTurn (R.context context.now.resources.now) context.now.types reader.old.left
         reader.new.left (state v.old) (state v.new) }
     ensures told { result ≡ false → IsSome refusal.new }
-    ensures refused { result ≡ false → IfSome refusal.new (λ e. IsRefusal e
-        → ¬ AreAcceptedOperators (R.context context.now.resources.now) context.now.types (may_stand None)
-        (state v.old) reader.old.left) }
-    ensures vector { result ≡ false → IfSome refusal.new (λ e. IsVector e → BeginVector reader.old.left) }
+    ensures fault { result ≡ false → IfSome refusal.new (IsFault
+        (body_context (R.context context.now.resources.now) (state v.old)) context.now.types (may_stand None)
+        (state v.old).present reader.old.left) }
 {
     let mut lent = reader.duplicate();
     let is_accepted = is_read_accepted(v, context, &mut lent, lists, refusal);
@@ -190,10 +186,9 @@ fn is_next_accepted<R: WasmModuleResources>(
     ensures turn { result ≡ true → IsTurn (R.context context.now.resources.now) context.now.types reader.old.left
         reader.new.left (state v.old) (state v.new) }
     ensures told { result ≡ false → IsSome refusal.new }
-    ensures refused { result ≡ false → IfSome refusal.new (λ e. IsRefusal e
-        → ¬ AreAcceptedOperators (R.context context.now.resources.now) context.now.types (may_stand None)
-        (state v.old) reader.old.left) }
-    ensures vector { result ≡ false → IfSome refusal.new (λ e. IsVector e → BeginVector reader.old.left) }
+    ensures fault { result ≡ false → IfSome refusal.new (IsFault
+        (body_context (R.context context.now.resources.now) (state v.old)) context.now.types (may_stand None)
+        (state v.old).present reader.old.left) }
 {
     passes_common(v, context.resources, reader)
         || is_lent_accepted(v, context, reader, lists, refusal)
@@ -209,11 +204,8 @@ fn check_function_operators<R: WasmModuleResources>(
     requires { IsStarting (R.context context.now.resources.now) (state v.old) }
     ensures accepted { OnOk result (AreSafeOperators (R.context context.now.resources.now) context.now.types
         (may_stand None) (state v.old) code.now.left) }
-    ensures refused { IfErr result (λ e. IsRefusal e
-        → ¬ AreAcceptedOperators (R.context context.now.resources.now) context.now.types (may_stand None)
-        (state v.old) code.now.left) }
-    ensures vector { IfErr result (λ e. IsVector e → ReachVector (R.context context.now.resources.now)
-        context.now.types (may_stand None) (state v.old) code.now.left) }
+    ensures fault { IfErr result (ReachFault (R.context context.now.resources.now) context.now.types
+        (may_stand None) (state v.old) code.now.left) }
 {
     let mut refusal = None;
     let mut reader = code.duplicate();
@@ -243,11 +235,8 @@ pub(crate) fn check_operators<R: WasmModuleResources>(
     requires { IsStarting (R.context context.now.resources.now) (state v.old) }
     ensures accepted { OnOk result (AreSafeOperators (R.context context.now.resources.now) context.now.types
         (may_stand context.now.constant) (state v.old) reader.old.left) }
-    ensures refused { IfErr result (λ e. IsRefusal e
-        → ¬ AreAcceptedOperators (R.context context.now.resources.now) context.now.types
+    ensures fault { IfErr result (ReachFault (R.context context.now.resources.now) context.now.types
         (may_stand context.now.constant) (state v.old) reader.old.left) }
-    ensures vector { IfErr result (λ e. IsVector e → ReachVector (R.context context.now.resources.now)
-        context.now.types (may_stand context.now.constant) (state v.old) reader.old.left) }
 {
     match context.constant {
         None => check_function_operators(v, context, reader, lists),
@@ -268,9 +257,8 @@ fn is_accepted_by_check<R: WasmModuleResources>(
     ensures row { result ≡ true → Meets (R.context resources.now) (λ cx. operator cx op.now) offset (state v.old)
         (Ok tt) (state v.new) }
     ensures told { result ≡ false → IsSome refusal.new }
-    ensures refused { result ≡ false → IfSome refusal.new (λ e. IsRefusal e
-        → RowFails (step_body (R.context resources.now) (λ cx. operator cx op.now) (state v.old))) }
-    ensures covered { result ≡ false → IfSome refusal.new (λ e. ¬ IsVector e) }
+    ensures refused { result ≡ false → IfSome refusal.new (IsRefusedFor
+        (RowFails (step_body (R.context resources.now) (λ cx. operator cx op.now) (state v.old)))) }
 {
     match v.check_slowly(resources, offset, op) {
         Ok(()) => true,
@@ -295,9 +283,8 @@ fn is_accepted<R: WasmModuleResources>(
     ensures row { result ≡ true → Meets (R.context resources.now) (λ cx. operator cx op.now) offset (state v.old)
         (Ok tt) (state v.new) }
     ensures told { result ≡ false → IsSome refusal.new }
-    ensures refused { result ≡ false → IfSome refusal.new (λ e. IsRefusal e
-        → RowFails (step_body (R.context resources.now) (λ cx. operator cx op.now) (state v.old))) }
-    ensures covered { result ≡ false → IfSome refusal.new (λ e. ¬ IsVector e) }
+    ensures refused { result ≡ false → IfSome refusal.new (IsRefusedFor
+        (RowFails (step_body (R.context resources.now) (λ cx. operator cx op.now) (state v.old)))) }
 {
     if v.passes_at_once(resources, op) {
         return true;

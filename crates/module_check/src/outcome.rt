@@ -1,8 +1,8 @@
 //! What checks come to, each with its status, its word and its weight: the one list of these.
 
-ghost use Rattle.std.specs.Prelude.{◌≡◌, min, nat_lt};
+ghost use Rattle.std.specs.Prelude.{◌≡◌, ◌⊎◌, min, nat_lt};
 ghost use Rattle.module_check.specs.Verdicts.{outcome_of, status, weight};
-ghost use Rattle.module_check.specs.declared.outcome.Outcome.TheVariants.{Valid};
+ghost use Rattle.module_check.specs.declared.outcome.Outcome.TheVariants.{Valid, NotCovered};
 
 use crate::verdict::Verdict;
 
@@ -97,9 +97,10 @@ impl Outcome {
         other.weight() < self.weight()
     }
 
-    /// The graver of two: it is valid only if both are.
+    /// The graver of two: it is valid only if both are, and not covered only if one isn't.
     pub fn or(self, other: Outcome) -> Outcome
-        ensures { result ≡ Valid → (self ≡ Valid) × (other ≡ Valid) }
+        ensures valid { result ≡ Valid → (self ≡ Valid) × (other ≡ Valid) }
+        ensures uncovered { result ≡ NotCovered → (self ≡ NotCovered) ⊎ (other ≡ NotCovered) }
     {
         if other.is_graver(self) { other } else { self }
     }

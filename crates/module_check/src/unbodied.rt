@@ -1,6 +1,6 @@
 //! A module that has no bodies yet.
 
-ghost use Rattle.std.specs.Prelude.{◌≡◌, ◌≢◌, ◌≤◌, ◌<◌, ◌+◌, ◌^◌, ◌++◌, length, Some, IfOk, IfErr};
+ghost use Rattle.std.specs.Prelude.{◌≡◌, ◌≢◌, ◌≤◌, ◌<◌, ◌+◌, ◌^◌, ◌++◌, ℕ, true, drop, length, Some, IfOk, IfErr};
 ghost use Rattle.module_rules.specs.Declarations.{declarations_of};
 ghost use Rattle.module_rules.specs.Lookup.{lookup_lists};
 ghost use Rattle.module_rules.specs.Validity.{IsValidModule};
@@ -152,9 +152,13 @@ fn counts_of(bytes: &[u8]) -> Counts
 }
 
 impl LoadedDeclarations {
+    ghost use Rattle.binary_operators.specs.Vectors.{BeginVector};
     ghost use Rattle.module_check.specs.Unbodied.{BeginsModule, DeclaresInModule, declared_by, features_of, context_in};
     ghost use Rattle.module_check.specs.Unbodied.{AreTypesIn};
+    ghost use Rattle.module_check.specs.declared.verdict.Verdict.TheVariants.{NotCovered};
+    ghost use Rattle.module_rules.specs.Features.{operator_features};
     ghost use Rattle.validate_resources.specs.Lists.{context_of};
+    ghost use Rattle.validate_types.specs.Features.{has, simd};
 
     /// Reads a module that has no bodies yet, of which these are all the bytes: one that ends before its code section, or
     /// has none. What it declares is checked as by [`LoadedModule::new`], whose errors these are, but for two things: there
@@ -167,10 +171,18 @@ impl LoadedDeclarations {
         ensures read { IfOk result (λ d. BeginsModule bytes.now (declared_by d)) }
         ensures features { IfOk result (λ d. features_of d ≡ features) }
         ensures refused { IfErr result (λ verdict. verdict ≢ Accepted) }
+        ensures proposal { IfErr result (λ verdict. (offset : ℕ) → verdict ≡ NotCovered offset
+            → has (operator_features features) simd ≡ true) }
+        ensures uncovered { IfErr result (λ verdict. (offset : ℕ) → verdict ≡ NotCovered offset
+            → BeginVector (drop offset bytes.now)) }
     {
-        match with_sections(alloc, bytes, counts_of(bytes)) {
-            Ok(whole) => LoadedDeclarations::of_whole(alloc, &whole, features),
-            Err(_) => Err(Verdict::OutOfMemory),
+        let Ok(whole) = with_sections(alloc, bytes, counts_of(bytes)) else {
+            return Err(Verdict::OutOfMemory);
+        };
+        match LoadedDeclarations::of_whole(alloc, &whole, features) {
+            Ok(declarations) => Ok(declarations),
+            // Where a section is longer than these bytes, what stands behind them may begin with that prefix.
+            Err(verdict) => Err(verdict.within(bytes)),
         }
     }
 
@@ -183,6 +195,8 @@ impl LoadedDeclarations {
         ensures read { IfOk result (λ d. DeclaresInModule whole.now (declared_by d)) }
         ensures features { IfOk result (λ d. features_of d ≡ features) }
         ensures refused { IfErr result (λ verdict. verdict ≢ Accepted) }
+        ensures proposal { IfErr result (λ verdict. (offset : ℕ) → verdict ≡ NotCovered offset
+            → has (operator_features features) simd ≡ true) }
     {
         match LoadedModule::new(alloc, whole, features) {
             Ok(module) => Ok(module.into_declarations()),

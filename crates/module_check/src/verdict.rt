@@ -1,15 +1,17 @@
 //! What the check of a body or a constant expression comes to.
 
-ghost use Rattle.std.specs.Prelude.{◌≡◌, ◌≢◌, ◌↔◌, ℕ, true, false, IsOk, IfErr};
-ghost use Rattle.binary_operators.specs.declared.error.Cause.TheVariants.{OutOfMemory as NoMemory, VectorOperator};
-ghost use Rattle.module_check.specs.Refusals.{IsRefusal, IsInvalid, IsVector};
+ghost use Rattle.std.specs.Prelude.{◌≡◌, ◌≢◌, ◌↔◌, ℕ, true, false, drop, IsOk, IfErr};
+ghost use Rattle.binary_operators.specs.Vectors.{BeginVector};
+ghost use Rattle.binary_operators.specs.declared.error.Cause.TheVariants.{Malformed as OfFault, OutOfMemory as NoMemory, VectorOperator};
+ghost use Rattle.binary_operators.specs.declared.error.Fault.{Fault};
+ghost use Rattle.module_check.specs.Refusals.{IsRefusal, IsInvalid, IsMalformed, IsVector};
 ghost use Rattle.module_check.specs.Verdicts.{kind_of, index_of};
-ghost use Rattle.module_check.specs.declared.verdict.Verdict.TheVariants.{Accepted, Refused, NotCovered, OutOfMemory};
+ghost use Rattle.module_check.specs.declared.verdict.Verdict.TheVariants.{Accepted, Refused, Malformed, NotCovered, OutOfMemory};
 ghost use Rattle.validate_types.specs.Features.{has, simd};
 ghost use Rattle.validate_types.specs.declared.error.Error.{Error};
 
 use crate::reasons::reason_number;
-use binary_operators::{Cause, Fault, ReadError};
+use binary_operators::{BinaryReader, Cause, Fault, ReadError};
 use module_rules::Place;
 use std::alloc::Global;
 use std::fmt;
@@ -137,12 +139,24 @@ impl From<Error> for CheckError {
     }
 }
 
+/// Whether the prefix of vector operators stands at this offset.
+fn has_vector_at(bytes: &[u8], offset: u64) -> bool
+    ensures { result ≡ true → BeginVector (drop offset bytes.now) }
+{
+    let mut reader = BinaryReader::new(bytes);
+    match reader.read_bytes(offset as usize) {
+        Ok(_) => matches!(reader.peek(), Ok(0xfd)),
+        Err(_) => false,
+    }
+}
+
 impl Verdict {
     /// The verdict of a body that was checked: it is accepted, or it isn't for this.
     pub fn of_check(checked: Result<(), CheckError>) -> Verdict
         ensures accepted { (result ≡ Accepted) ↔ IsOk checked }
         ensures refused { result ≢ Accepted → result ≢ OutOfMemory → IfErr checked IsRefusal }
-        ensures vector { (offset : ℕ) → result ≡ NotCovered offset → IfErr checked IsVector }
+        ensures uncovered { (offset : ℕ) → result ≡ NotCovered offset → IfErr checked IsVector }
+        ensures malformed { (e : Error) → result ≡ Malformed e → IfErr checked IsMalformed }
     {
         match checked {
             Ok(()) => Verdict::Accepted,
@@ -155,7 +169,8 @@ impl Verdict {
     pub fn of_check_in(alloc: Global, checked: Result<(), CheckError>) -> Verdict
         ensures accepted { (result ≡ Accepted) ↔ IsOk checked }
         ensures refused { result ≢ Accepted → result ≢ OutOfMemory → IfErr checked IsRefusal }
-        ensures vector { (offset : ℕ) → result ≡ NotCovered offset → IfErr checked IsVector }
+        ensures uncovered { (offset : ℕ) → result ≡ NotCovered offset → IfErr checked IsVector }
+        ensures malformed { (e : Error) → result ≡ Malformed e → IfErr checked IsMalformed }
     {
         match checked {
             Ok(()) => Verdict::Accepted,
@@ -170,6 +185,7 @@ impl Verdict {
         ensures refused { (e : Error) → result ≡ Refused e → refusal.wants_memory ≡ false }
         ensures memory { result ≢ OutOfMemory → refusal.wants_memory ≡ false }
         ensures covered { (offset : ℕ) → result ≢ NotCovered offset }
+        ensures malformed { (e : Error) → result ≢ Malformed e }
     {
         if refusal.is_out_of_memory() {
             Verdict::OutOfMemory
@@ -207,7 +223,7 @@ impl Verdict {
 
     /// Whether it is that of a vector operator, which isn't covered.
     pub fn is_not_covered(&self) -> bool
-        ensures covered { result ≡ true → (offset : ℕ) × (self.now ≡ NotCovered offset) }
+        ensures uncovered { result ≡ true → (offset : ℕ) × (self.now ≡ NotCovered offset) }
         ensures others { result ≡ false → (offset : ℕ) → self.now ≢ NotCovered offset }
     {
         matches!(self, Verdict::NotCovered(_))
@@ -217,12 +233,30 @@ impl Verdict {
     pub fn under(self, features: &WasmFeatures) -> Verdict
         ensures accepted { (result ≡ Accepted) ↔ (self ≡ Accepted) }
         ensures memory { (result ≡ OutOfMemory) ↔ (self ≡ OutOfMemory) }
-        ensures covered { (offset : ℕ) → result ≡ NotCovered offset → has features.now simd ≡ true }
+        ensures proposal { (offset : ℕ) → result ≡ NotCovered offset → has features.now simd ≡ true }
         ensures same { has features.now simd ≡ true → result ≡ self }
+        ensures malformed { (e : Error) → result ≡ Malformed e → self ≡ Malformed e }
     {
         match self {
             Verdict::NotCovered(offset) if !features.simd() => {
                 Verdict::Refused(Error::new("SIMD support is not enabled", offset))
+            }
+            verdict => verdict,
+        }
+    }
+
+    /// The verdict on these bytes: it is *not covered* only where a vector operator begins at the offset that it tells.
+    /// Elsewhere they end before what was read.
+    pub(crate) fn within(self, bytes: &[u8]) -> Verdict
+        ensures accepted { (result ≡ Accepted) ↔ (self ≡ Accepted) }
+        ensures memory { (result ≡ OutOfMemory) ↔ (self ≡ OutOfMemory) }
+        ensures same { (offset : ℕ) → result ≡ NotCovered offset → self ≡ NotCovered offset }
+        ensures uncovered { (offset : ℕ) → result ≡ NotCovered offset → BeginVector (drop offset bytes.now) }
+    {
+        match self {
+            Verdict::NotCovered(offset) if !has_vector_at(bytes, offset) => {
+                let fault = Fault::UnexpectedEnd;
+                Verdict::of_fault(fault, Error::new(fault.text(), bytes.len() as u64))
             }
             verdict => verdict,
         }
@@ -245,7 +279,8 @@ impl Verdict {
     pub fn of_read_error(error: ReadError) -> Verdict
         ensures not_accepted { result ≢ Accepted }
         ensures memory { result ≢ OutOfMemory → error.cause ≢ NoMemory }
-        ensures vector { (offset : ℕ) → result ≡ NotCovered offset → error.cause ≡ VectorOperator }
+        ensures uncovered { (offset : ℕ) → result ≡ NotCovered offset → error.cause ≡ VectorOperator }
+        ensures malformed { (e : Error) → result ≡ Malformed e → (fault : Fault) × (error.cause ≡ OfFault fault) }
     {
         match error.cause {
             Cause::Malformed(fault) => {
@@ -260,7 +295,8 @@ impl Verdict {
     pub fn of_read_error_in(alloc: Global, error: ReadError) -> Verdict
         ensures not_accepted { result ≢ Accepted }
         ensures memory { result ≢ OutOfMemory → error.cause ≢ NoMemory }
-        ensures vector { (offset : ℕ) → result ≡ NotCovered offset → error.cause ≡ VectorOperator }
+        ensures uncovered { (offset : ℕ) → result ≡ NotCovered offset → error.cause ≡ VectorOperator }
+        ensures malformed { (e : Error) → result ≡ Malformed e → (fault : Fault) × (error.cause ≡ OfFault fault) }
     {
         match error.cause {
             Cause::Malformed(fault) if fault.has_number() => {

@@ -1,9 +1,10 @@
 //! The check of a module.
 
 ghost use Rattle.std.specs.Prelude.{◌≡◌, ◌≢◌, ◌⊎◌, ◌≤◌, length};
-ghost use Rattle.module_check.specs.Items.{HasUncovered, item_count};
+ghost use Rattle.module_check.specs.Items.{item_count};
 ghost use Rattle.module_check.specs.Loaded.{IsAcceptedFunction, IsAcceptedModule};
-ghost use Rattle.module_check.specs.Loaded.{IsSafeFunction, IsUncoveredFunction, IsValid};
+ghost use Rattle.module_check.specs.Loaded.{IsSafeFunction, IsValid};
+ghost use Rattle.module_check.specs.UncoveredModule.{HasUncovered, IsUncoveredFunction};
 ghost use Rattle.module_check.specs.Verdicts.{IsConsistent, SaysNo, total};
 
 use crate::buffers::BodyBuffers;
@@ -27,7 +28,7 @@ pub fn check_function(
     ensures refused { SaysNo out.new.status → SaysNo out.old.status ⊎ ¬ IsAcceptedFunction module.now function }
     ensures known { out.old.status ≤ 4 → out.new.status ≤ 4 }
     ensures counted { out.new.status ≢ 3 → total out.old ≡ 0 → total out.new ≡ 1 }
-    ensures not_covered { out.new.status ≡ 4 → (out.old.status ≡ 4)
+    ensures uncovered { out.new.status ≡ 4 → (out.old.status ≡ 4)
         ⊎ IsUncoveredFunction module.now function }
 {
     let verdict = module.check_function(function, buffers);
@@ -55,7 +56,7 @@ pub fn check_module(
     ensures refused { SaysNo out.new.status → SaysNo out.old.status ⊎ ¬ IsAcceptedModule module.now }
     ensures known { out.old.status ≤ 4 → out.new.status ≤ 4 }
     ensures counted { out.new.status ≢ 3 → total out.old ≡ 0 → total out.new ≡ item_count module.now }
-    ensures not_covered { out.new.status ≡ 4 → (out.old.status ≡ 4) ⊎ HasUncovered module.now }
+    ensures uncovered { out.new.status ≡ 4 → (out.old.status ≡ 4) ⊎ HasUncovered module.now }
 {
     for place in 0..item_count(module) {
         let checked = check_item(module, place, buffers);

@@ -1,9 +1,10 @@
 //! The check of one module.
 
-ghost use Rattle.std.specs.Prelude.{◌≡◌, IfOk, OnOk};
+ghost use Rattle.std.specs.Prelude.{◌≡◌, ◌≢◌, ◌⊎◌, IfOk, OnOk};
 ghost use Rattle.module_check.specs.Items.{AreSafeBelow, IsSafeAt, item_count};
 ghost use Rattle.module_check.specs.Loaded.{AreValidModule, IsValid};
-ghost use Rattle.module_check.specs.declared.outcome.Outcome.TheVariants.{Valid};
+ghost use Rattle.module_check.specs.UncoveredModule.{HasUncovered, IsUncoveredAt};
+ghost use Rattle.module_check.specs.declared.outcome.Outcome.TheVariants.{Valid, NotCovered};
 
 use crate::explain::{Asked, refusal_of, shown_of};
 use crate::lines::{Finding, Lines};
@@ -189,8 +190,10 @@ impl<'m> ModuleCheck<'_, 'm, '_> {
         place: usize,
         progress: &mut Progress,
     ) -> io::Result<()>
-        ensures { OnOk result (progress.new.tally.outcome ≡ Valid → (progress.old.tally.outcome ≡ Valid)
+        ensures valid { OnOk result (progress.new.tally.outcome ≡ Valid → (progress.old.tally.outcome ≡ Valid)
             × IsSafeAt self.now.module.now place) }
+        ensures uncovered { OnOk result (progress.new.tally.outcome ≡ NotCovered
+            → (progress.old.tally.outcome ≡ NotCovered) ⊎ IsUncoveredAt self.now.module.now place) }
     {
         let checked = check_item(self.module, place, &mut progress.buffers);
         progress.tally.count(&checked.verdict);
@@ -208,8 +211,10 @@ impl<'m> ModuleCheck<'_, 'm, '_> {
         out: &mut W,
         progress: &mut Progress,
     ) -> io::Result<()>
-        ensures { OnOk result (progress.new.tally.outcome ≡ Valid
+        ensures valid { OnOk result (progress.new.tally.outcome ≡ Valid
             → AreSafeBelow self.now.module.now (item_count self.now.module.now)) }
+        ensures uncovered { OnOk result (progress.new.tally.outcome ≡ NotCovered
+            → (progress.old.tally.outcome ≡ NotCovered) ⊎ HasUncovered self.now.module.now) }
     {
         let all = item_count(self.module);
         let bodies = self.module.body_count();
@@ -222,7 +227,9 @@ impl<'m> ModuleCheck<'_, 'm, '_> {
     }
 
     /// Says that no function has the name or the index that is asked for, if so, and answers what that comes to.
-    fn traced_outcome(&self, rt: &HostRuntime, has_traced: bool) -> io::Result<Outcome> {
+    fn traced_outcome(&self, rt: &HostRuntime, has_traced: bool) -> io::Result<Outcome>
+        ensures covered { IfOk result (λ outcome. outcome ≢ NotCovered) }
+    {
         match self.options.traced {
             Some(word) if !has_traced => {
                 let mut message = begun_message(self.options.lines);
@@ -265,7 +272,9 @@ fn check_named<W: Write>(
     check: &ModuleCheck<'_, '_, '_>,
     progress: &mut Progress,
 ) -> io::Result<Outcome>
-    ensures { IfOk result (λ outcome. outcome ≡ Valid → IsValid check.now.module.now) }
+    ensures valid { IfOk result (λ outcome. outcome ≡ Valid → IsValid check.now.module.now) }
+    ensures uncovered { IfOk result (λ outcome. outcome ≡ NotCovered
+        → (progress.old.tally.outcome ≡ NotCovered) ⊎ HasUncovered check.now.module.now) }
 {
     check.check_items(rt, out, progress)?;
     write_tally(
@@ -285,7 +294,8 @@ fn check_module<W: Write>(
     options: CheckOptions<'_>,
     module: &LoadedModule<'_>,
 ) -> io::Result<Outcome>
-    ensures { IfOk result (λ outcome. outcome ≡ Valid → IsValid module.now) }
+    ensures valid { IfOk result (λ outcome. outcome ≡ Valid → IsValid module.now) }
+    ensures uncovered { IfOk result (λ outcome. outcome ≡ NotCovered → HasUncovered module.now) }
 {
     let Ok(names) = module.names(rt.alloc()) else {
         let refused = write_module(out, options.lines, options.detail, &Verdict::OutOfMemory)?;
@@ -311,7 +321,7 @@ pub fn check_bytes<W: Write>(
     options: CheckOptions<'_>,
     bytes: &[u8],
 ) -> io::Result<Outcome>
-    ensures { IfOk result (λ outcome. outcome ≡ Valid → AreValidModule options.entry.features bytes.now) }
+    ensures valid { IfOk result (λ outcome. outcome ≡ Valid → AreValidModule options.entry.features bytes.now) }
 {
     match LoadedModule::new(rt.alloc(), bytes, options.features) {
         Ok(module) => {

@@ -1,8 +1,8 @@
 //! What a module comes to as it is checked, and what is written of it.
 
-ghost use Rattle.std.specs.Prelude.{◌≡◌, IfOk};
-ghost use Rattle.module_check.specs.declared.outcome.Outcome.TheVariants.{Valid};
-ghost use Rattle.module_check.specs.declared.verdict.Verdict.TheVariants.{Accepted};
+ghost use Rattle.std.specs.Prelude.{◌≡◌, ◌⊎◌, ℕ, IfOk};
+ghost use Rattle.module_check.specs.declared.outcome.Outcome.TheVariants.{Valid, NotCovered};
+ghost use Rattle.module_check.specs.declared.verdict.Verdict.TheVariants.{Accepted, NotCovered as Uncovered};
 
 use crate::lines::{Counts, Finding, Lines, Summary};
 use crate::options::Detail;
@@ -22,7 +22,9 @@ pub struct Tally {
 
 impl Tally {
     /// Nothing is checked, of a module so many of whose types are equal to earlier ones.
-    pub fn new(equal_types: usize) -> Tally {
+    pub fn new(equal_types: usize) -> Tally
+        ensures { result.outcome ≡ Valid }
+    {
         Tally {
             outcome: Outcome::Valid,
             counts: Counts {
@@ -37,7 +39,9 @@ impl Tally {
 
     /// Counts one more.
     pub fn count(&mut self, verdict: &Verdict)
-        ensures { self.new.outcome ≡ Valid → (self.old.outcome ≡ Valid) × (verdict.now ≡ Accepted) }
+        ensures valid { self.new.outcome ≡ Valid → (self.old.outcome ≡ Valid) × (verdict.now ≡ Accepted) }
+        ensures uncovered { self.new.outcome ≡ NotCovered → (self.old.outcome ≡ NotCovered)
+            ⊎ ((offset : ℕ) × (verdict.now ≡ Uncovered offset)) }
     {
         self.outcome = self.outcome.or(Outcome::of(verdict));
         self.counts.add(verdict);
@@ -120,7 +124,9 @@ pub fn write_module<W: Write>(
     detail: Detail,
     verdict: &Verdict,
 ) -> io::Result<Outcome>
-    ensures { IfOk result (λ outcome. outcome ≡ Valid → verdict.now ≡ Accepted) }
+    ensures valid { IfOk result (λ outcome. outcome ≡ Valid → verdict.now ≡ Accepted) }
+    ensures uncovered { IfOk result (λ outcome. outcome ≡ NotCovered
+        → (offset : ℕ) × (verdict.now ≡ Uncovered offset)) }
 {
     write_refusal(out, lines, detail, verdict)?;
     let outcome = Outcome::of(verdict);

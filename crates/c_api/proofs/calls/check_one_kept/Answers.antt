@@ -1,6 +1,7 @@
 -- What is checked is the module that is kept.
 use Rattle.std.proofs.Common.{subst}
-use Rattle.module_check.specs.Loaded.{IsSafeFunction, IsAcceptedFunction, IsUncoveredFunction}
+use Rattle.module_check.specs.Loaded.{IsSafeFunction, IsAcceptedFunction}
+use Rattle.module_check.specs.UncoveredModule.{IsUncoveredFunction}
 use Rattle.c_api.specs.Calls.{OnWhole}
 use Rattle.c_api.proofs.calls.check_one_kept.Goals as goal
 

@@ -1,9 +1,16 @@
--- Where the status is 0, the module was read, and is valid.
-use Rattle.std.proofs.Common.{sym, ◌∙◌}
-use Rattle.c_api.proofs.Bytes.{read_valid}
+-- Where the status is 0, the module was read, and is valid; where it is 4, something isn't covered.
+use Rattle.std.proofs.Common.{◌≡◌, sym, ◌∙◌, inl, inr, arith}
+use Rattle.c_api.proofs.Bytes.{read_valid, read_uncovered}
 use Rattle.c_api.proofs.calls.validate.Goals as goal
 
 pub returns-clause-valid : goal.returns-clause-valid
 returns-clause-valid c = λ z.
     let status = sym c.status_of.ensures ∙ z in
     read_valid c.args.bytes.now c.args.features c.read.result c.read.ensures.loaded (c.check_read.ensures.read status) (c.check_read.ensures.valid status)
+
+pub returns-clause-uncovered : goal.returns-clause-uncovered
+returns-clause-uncovered c = λ four.
+    elim (c.check_read.ensures.uncovered (sym c.status_of.ensures ∙ four)) [
+      | inl before ↦ let clash : 0 ≡ 4 = sym c.new.ensures.accepted ∙ before in absurd (omega (arith, clash))
+      | inr this ↦ read_uncovered c.args.bytes.now c.args.features c.read.result c.read.ensures.loaded c.read.ensures.uncovered this
+    ]

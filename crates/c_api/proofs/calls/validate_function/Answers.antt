@@ -1,7 +1,8 @@
 -- What is checked is what the handle keeps.
 use Rattle.std.proofs.Common.{◌≡◌, ◌∙◌, Some, sym, subst}
 use Rattle.std.specs.Prelude.{◌⊎◌, ◌↔◌}
-use Rattle.module_check.specs.Loaded.{IsSafeFunction, IsAcceptedFunction, IsUncoveredFunction}
+use Rattle.module_check.specs.Loaded.{IsSafeFunction, IsAcceptedFunction}
+use Rattle.module_check.specs.UncoveredModule.{IsUncoveredFunction}
 use Rattle.c_api.specs.Calls.{OnModule, OnHeld, HasNoBody}
 use Rattle.c_api.proofs.calls.validate_function.Goals as goal
 

@@ -1,6 +1,6 @@
 -- What is answered of the handle, clause by clause.
 use Rattle.std.proofs.Common.{refl}
-use Rattle.c_api.proofs.Both.{accepted, refused, failed, unchanged, none, known, none_taken}
+use Rattle.c_api.proofs.Both.{accepted, refused, uncovered, failed, unchanged, none, known, none_taken}
 use Rattle.c_api.proofs.function_calls.op.Goals as goal
 
 pub returns-clause-accepted : goal.returns-clause-accepted
@@ -14,6 +14,9 @@ returns-clause-failed c = failed c.op_of_handle.ensures.answer refl
 
 pub returns-clause-unchanged : goal.returns-clause-unchanged
 returns-clause-unchanged c = unchanged c.op_of_handle.ensures.answer
+
+pub returns-clause-uncovered : goal.returns-clause-uncovered
+returns-clause-uncovered c = uncovered c.op_of_handle.ensures.answer
 
 pub returns-clause-none : goal.returns-clause-none
 returns-clause-none c = none c.op_of_handle.ensures.answer

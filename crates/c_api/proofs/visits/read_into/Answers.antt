@@ -5,6 +5,7 @@ use Rattle.binary_operators.proofs.Shorter.{operator_shorter}
 use Rattle.binary_operators.specs.Instructions.{operator}
 use Rattle.binary_operators.specs.Unplaced.{unplaced}
 use Rattle.binary_operators.specs.Unread.{Unread}
+use Rattle.binary_operators.specs.Vectors.{BeginVector}
 use Rattle.c_api.proofs.Readings.{length_taken, none_read}
 use Rattle.c_api.proofs.visits.read_into.Goals as goal
 
@@ -13,6 +14,11 @@ returns-in_err-read_operator_into-clause-refused c =
     let p = err_from_is_err_and c.from_residual.result c.from_residual.ensures.1 in
     rw (p.1, p.2) (λ refusal. none_read c.args.module.now c.types-types.result c.args.bytes.now c.types-types.ensures
     (subst (λ (r : Unread). operator c.types-types.result r.left ≡ None) c.new-reader.ensures (c.in_err-read_operator_into.ensures.refused refusal)))
+
+pub returns-in_err-read_operator_into-clause-vector : goal.returns-in_err-read_operator_into-clause-vector
+returns-in_err-read_operator_into-clause-vector c =
+    let p = err_from_is_err_and c.from_residual.result c.from_residual.ensures.1 in
+    rw (p.1, p.2) (λ vector. subst (λ (r : Unread). BeginVector r.left) c.new-reader.ensures (c.in_err-read_operator_into.ensures.vector vector))
 
 pub overflow_sub-result : goal.overflow_sub-result
 overflow_sub-result c =

@@ -1,10 +1,11 @@
--- What was checked and accepted is the code of the body; what was refused is none.
-use Rattle.std.proofs.Common.{◌≡◌, ◌∙◌, sym}
+-- What was checked and accepted is the code of the body; what was refused is none, by its first fault.
+use Rattle.std.proofs.Common.{◌≡◌, ◌∙◌, sym, inl, inr}
 use Rattle.module_check.specs.Constant.{may_stand}
-use Rattle.module_check.specs.Refusals.{IsRefusal, IsVector}
-use Rattle.module_check.specs.declared.verdict.Verdict.TheVariants.{Accepted, NotCovered}
+use Rattle.module_check.specs.Refusals.{IsMalformed, IsRefusal, IsVector}
+use Rattle.module_check.specs.declared.verdict.Verdict.TheVariants.{Accepted, Malformed, NotCovered, OutOfMemory, Refused}
 use Rattle.validate_operators.specs.Start.{state}
-use Rattle.module_check.proofs.Begun.{given_ok, refused_for, not_started}
+use Rattle.module_check.proofs.Begun.{given_ok, error_of, not_started}
+use Rattle.module_check.proofs.FirstFaults.{no_code, vector_there, vector_is_refusal, malformed_is_refusal}
 use Rattle.module_check.proofs.body.check_body.Goals as goal
 
 pub returns-in-Ok-clause-accepted : goal.returns-in-Ok-clause-accepted
@@ -13,16 +14,43 @@ returns-in-Ok-clause-accepted g c = λ accepted.
 
 pub returns-in-Ok-clause-refused : goal.returns-in-Ok-clause-refused
 returns-in-Ok-clause-refused g c = λ refused memory.
-    refused_for c.check_body_from-checked.result IsRefusal (λ ok. refused (c.under.ensures.accepted.1 (c.of_check_in.ensures.accepted.1 ok)))
-    (c.of_check_in.ensures.refused (λ a. refused (c.under.ensures.accepted.1 a)) (λ m. memory (c.under.ensures.memory.1 m))) c.check_body_from-checked.ensures.refused c.args.context.now.features.now c.in-Ok.ensures.made
+    error_of c.check_body_from-checked.result IsRefusal _ (λ ok. refused (c.under.ensures.accepted.1 (c.of_check_in.ensures.accepted.1 ok)))
+    (c.of_check_in.ensures.refused (λ a. refused (c.under.ensures.accepted.1 a)) (λ m. memory (c.under.ensures.memory.1 m))) c.check_body_from-checked.ensures.fault
+    (λ e refusal f. no_code (g.R.WasmModuleResources.context c.args.context.now.resources.now) c.args.context.now.features.now c.args.context.now.types (may_stand c.args.context.now.constant)
+    c.args.reader.now.left c.args.kind e (f refusal c.args.context.now.features.now c.in-Ok.ensures.made) refusal)
 
 pub returns-in-Err-clause-refused : goal.returns-in-Err-clause-refused
 returns-in-Err-clause-refused g c = λ refused memory.
     not_started (g.R.WasmModuleResources.context c.args.context.now.resources.now) c.args.context.now.features.now c.args.context.now.types (may_stand c.args.context.now.constant) (state c.start_body.new.self) c.args.reader.now.left c.args.kind
     (c.in-Err.ensures.refused (c.of_refusal.ensures.memory memory))
 
-pub returns-in-Ok-clause-vector : goal.returns-in-Ok-clause-vector
-returns-in-Ok-clause-vector g c = λ offset uncovered.
-    let was : c.of_check_in.result ≡ NotCovered offset = sym (c.under.ensures.same (c.under.ensures.covered offset uncovered)) ∙ uncovered in
-    refused_for c.check_body_from-checked.result IsVector (λ ok. let clash : NotCovered offset ≡ Accepted = sym was ∙ c.of_check_in.ensures.accepted.1 ok in absurd cc)
-    (c.of_check_in.ensures.vector offset was) c.check_body_from-checked.ensures.vector c.args.context.now.features.now c.in-Ok.ensures.made
+pub returns-in-Ok-clause-uncovered : goal.returns-in-Ok-clause-uncovered
+returns-in-Ok-clause-uncovered g c = λ offset uncovered.
+    let was : c.of_check_in.result ≡ NotCovered offset = sym (c.under.ensures.same (c.under.ensures.proposal offset uncovered)) ∙ uncovered in
+    error_of c.check_body_from-checked.result IsVector _ (λ ok. let clash : NotCovered offset ≡ Accepted = sym was ∙ c.of_check_in.ensures.accepted.1 ok in absurd cc)
+    (c.of_check_in.ensures.uncovered offset was) c.check_body_from-checked.ensures.fault
+    (λ e vector f. vector_there (g.R.WasmModuleResources.context c.args.context.now.resources.now) c.args.context.now.features.now c.args.context.now.types (may_stand c.args.context.now.constant)
+    c.args.reader.now.left c.args.kind e (f (vector_is_refusal e vector) c.args.context.now.features.now c.in-Ok.ensures.made) vector)
+
+pub returns-in-Ok-clause-malformed : goal.returns-in-Ok-clause-malformed
+returns-in-Ok-clause-malformed g c = λ error malformed.
+    let was : c.of_check_in.result ≡ Malformed error = c.under.ensures.malformed error malformed in
+    error_of c.check_body_from-checked.result IsMalformed _ (λ ok. let clash : Malformed error ≡ Accepted = sym was ∙ c.of_check_in.ensures.accepted.1 ok in absurd cc)
+    (c.of_check_in.ensures.malformed error was) c.check_body_from-checked.ensures.fault
+    (λ e is f. record { error = e; is_malformed = is; has_fault = f (malformed_is_refusal e is) c.args.context.now.features.now c.in-Ok.ensures.made })
+
+pub returns-in-Err-clause-malformed : goal.returns-in-Err-clause-malformed
+returns-in-Err-clause-malformed g c = λ error malformed. absurd (c.of_refusal.ensures.malformed error malformed)
+
+pub returns-in-Ok-clause-invalid : goal.returns-in-Ok-clause-invalid
+returns-in-Ok-clause-invalid g c = λ error refused.
+    inr (error_of c.check_body_from-checked.result IsRefusal _
+    (λ ok. let clash : Refused error ≡ Accepted = sym refused ∙ c.under.ensures.accepted.1 (c.of_check_in.ensures.accepted.1 ok) in absurd cc)
+    (c.of_check_in.ensures.refused
+    (λ a. let clash : Refused error ≡ Accepted = sym refused ∙ c.under.ensures.accepted.1 a in absurd cc)
+    (λ m. let clash : Refused error ≡ OutOfMemory = sym refused ∙ c.under.ensures.memory.1 m in absurd cc))
+    c.check_body_from-checked.ensures.fault
+    (λ e is f. record { error = e; is_refusal = is; has_fault = f is c.args.context.now.features.now c.in-Ok.ensures.made }))
+
+pub returns-in-Err-clause-invalid : goal.returns-in-Err-clause-invalid
+returns-in-Err-clause-invalid g c = λ error refused. inl (c.in-Err.ensures.refused (c.of_refusal.ensures.refused error refused))

@@ -43,15 +43,15 @@ returns-in-None-clause-unaccepted c within refused memory accepted =
     let count = ap length c.expressions-expressions.ensures in
     c.check_function.ensures.refused refused memory (accepted_body c.args.module.now place _ _ (subst (λ n. n ≤ place) count c.in-None.ensures.lookup.3) within (c.saturating_sub.ensures ∙ ap (λ n. place - n) count) c.function_of-function.ensures accepted)
 
-pub returns-in-Some-clause-vector : goal.returns-in-Some-clause-vector
-returns-in-Some-clause-vector c offset vector =
+pub returns-in-Some-clause-uncovered : goal.returns-in-Some-clause-uncovered
+returns-in-Some-clause-uncovered c offset uncovered =
     let place = c.args.place in
     let listed = c.expressions-expressions.ensures in
     let found = c.in-Some.ensures.lookup in
-    expression_uncovered c.args.module.now place c.in-Some.expression.now (subst (λ n. place < n) (ap length listed) found.3.0) (found.1 ∙ ap (λ es. get_or es place c.in-Some.expression.now) listed) (c.check_expression.ensures.vector offset vector)
+    expression_uncovered c.args.module.now place c.in-Some.expression.now (subst (λ n. place < n) (ap length listed) found.3.0) (found.1 ∙ ap (λ es. get_or es place c.in-Some.expression.now) listed) (c.check_expression.ensures.uncovered offset uncovered)
 
-pub returns-in-None-clause-vector : goal.returns-in-None-clause-vector
-returns-in-None-clause-vector c offset vector =
+pub returns-in-None-clause-uncovered : goal.returns-in-None-clause-uncovered
+returns-in-None-clause-uncovered c offset uncovered =
     let place = c.args.place in
     let count = ap length c.expressions-expressions.ensures in
-    body_uncovered c.args.module.now place _ _ (subst (λ n. n ≤ place) count c.in-None.ensures.lookup.3) (c.saturating_sub.ensures ∙ ap (λ n. place - n) count) c.function_of-function.ensures (c.check_function.ensures.vector offset vector)
+    body_uncovered c.args.module.now place _ _ (subst (λ n. n ≤ place) count c.in-None.ensures.lookup.3) (c.saturating_sub.ensures ∙ ap (λ n. place - n) count) c.function_of-function.ensures (c.check_function.ensures.uncovered offset uncovered)

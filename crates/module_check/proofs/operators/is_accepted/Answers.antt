@@ -6,7 +6,7 @@ use Rattle.validate_stacks.specs.Visits.{step_body, MayVisit, Meets}
 use Rattle.validation_rules.specs.Static.{RowFails}
 use Rattle.validate_stacks.proofs.AtOnce.{done_at_once, same_at_once}
 use Rattle.validate_operators.specs.Start.{state, stacks_of}
-use Rattle.module_check.specs.Refusals.{IsRefusal}
+use Rattle.module_check.specs.Refusals.{IsRefusedFor}
 use Rattle.module_check.proofs.operators.is_accepted.Goals as goal
 
 pub returns-then-passes_at_once-clause-row : goal.returns-then-passes_at_once-clause-row
@@ -29,4 +29,4 @@ pub returns-clause-refused : goal.returns-clause-refused
 returns-clause-refused g c = λ refused.
     let md = g.R.WasmModuleResources.context c.args.resources.now in
     let same = same_at_once md (λ cx. operator cx c.args.op.now) (stacks_of c.args.v.now) (stacks_of c.passes_at_once.new.self) c.passes_at_once.result c.passes_at_once.ensures c.if-passes_at_once.false in
-    subst (λ (s : Stacked). IfSome c.is_accepted_by_check.new.refusal (λ e. IsRefusal e → RowFails (step_body md (λ cx. operator cx c.args.op.now) s.body))) same (c.is_accepted_by_check.ensures.refused refused)
+    subst (λ (s : Stacked). IfSome c.is_accepted_by_check.new.refusal (IsRefusedFor (RowFails (step_body md (λ cx. operator cx c.args.op.now) s.body)))) same (c.is_accepted_by_check.ensures.refused refused)

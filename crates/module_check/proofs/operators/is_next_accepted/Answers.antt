@@ -1,13 +1,12 @@
 -- A common operator passes, or nothing is changed before any operator is read.
 use Rattle.std.proofs.Common.{None, IfSome, sym, subst}
 use Rattle.binary_operators.specs.Unread.{Unread}
-use Rattle.binary_operators.specs.Vectors.{BeginVector}
 use Rattle.validate_stacks.specs.Attempts.{Stacked}
+use Rattle.validate_stacks.specs.State.{body_context}
 use Rattle.validate_stacks.specs.Visits.{MayVisit}
 use Rattle.validate_operators.specs.Start.{state, stacks_of}
-use Rattle.module_check.specs.Accepted.{AreAcceptedOperators}
 use Rattle.module_check.specs.Constant.{may_stand}
-use Rattle.module_check.specs.Refusals.{IsRefusal, IsVector}
+use Rattle.module_check.specs.Faults.{IsFault}
 use Rattle.module_check.specs.Turns.{IsTurn}
 use Rattle.module_check.proofs.Turned.{turn_of, same_of}
 use Rattle.module_check.proofs.operators.is_next_accepted.Goals as goal
@@ -30,16 +29,10 @@ returns-else-passes_common-clause-turn g c = λ accepted.
     let turn = subst (λ (s : Stacked). IsTurn md c.args.context.now.types c.passes_common.new.reader.left next.new.reader.left s.body (state next.new.v)) same.1 (next.ensures.turn accepted) in
     subst (λ (r : Unread). IsTurn md c.args.context.now.types r.left next.new.reader.left (state c.args.v.now) (state next.new.v)) same.0 turn
 
-pub returns-else-passes_common-clause-refused : goal.returns-else-passes_common-clause-refused
-returns-else-passes_common-clause-refused g c = λ is.
+pub returns-else-passes_common-clause-fault : goal.returns-else-passes_common-clause-fault
+returns-else-passes_common-clause-fault g c = λ is.
     let md = g.R.WasmModuleResources.context c.args.context.now.resources.now in
     let same = same_of md c.passes_common.result c.args.reader.now c.passes_common.new.reader (stacks_of c.args.v.now) (stacks_of c.passes_common.new.v) c.passes_common.ensures c.if-passes_common.false in
     let refusal = c.is_lent_accepted.new.refusal in
-    let there = subst (λ (s : Stacked). IfSome refusal (λ e. IsRefusal e → ¬ AreAcceptedOperators md c.args.context.now.types (may_stand None) s.body c.passes_common.new.reader.left)) same.1 (c.is_lent_accepted.ensures.refused is) in
-    subst (λ (r : Unread). IfSome refusal (λ e. IsRefusal e → ¬ AreAcceptedOperators md c.args.context.now.types (may_stand None) (state c.args.v.now) r.left)) same.0 there
-
-pub returns-else-passes_common-clause-vector : goal.returns-else-passes_common-clause-vector
-returns-else-passes_common-clause-vector g c = λ is.
-    let md = g.R.WasmModuleResources.context c.args.context.now.resources.now in
-    let same = same_of md c.passes_common.result c.args.reader.now c.passes_common.new.reader (stacks_of c.args.v.now) (stacks_of c.passes_common.new.v) c.passes_common.ensures c.if-passes_common.false in
-    subst (λ (r : Unread). IfSome c.is_lent_accepted.new.refusal (λ e. IsVector e → BeginVector r.left)) same.0 (c.is_lent_accepted.ensures.vector is)
+    let there = subst (λ (s : Stacked). IfSome refusal (IsFault (body_context md s.body) c.args.context.now.types (may_stand None) s.body.present c.passes_common.new.reader.left)) same.1 (c.is_lent_accepted.ensures.fault is) in
+    subst (λ (r : Unread). IfSome refusal (IsFault (body_context md (state c.args.v.now)) c.args.context.now.types (may_stand None) (state c.args.v.now).present r.left)) same.0 there

@@ -6,6 +6,6 @@ pub returns-clause-refused : goal.returns-clause-refused
 returns-clause-refused c = λ no.
     elim (c.note.ensures.refused no) [ inl before ↦ inl before | inr this ↦ inr (c.check_function-verdict.ensures.refused this.0 this.1) ]
 
-pub returns-clause-not_covered : goal.returns-clause-not_covered
-returns-clause-not_covered c = λ four.
-    elim (c.note.ensures.not_covered four) [ inl before ↦ inl before | inr this ↦ inr (c.check_function-verdict.ensures.vector this.0 this.1) ]
+pub returns-clause-uncovered : goal.returns-clause-uncovered
+returns-clause-uncovered c = λ four.
+    elim (c.note.ensures.uncovered four) [ inl before ↦ inl before | inr this ↦ inr (c.check_function-verdict.ensures.uncovered this.0 this.1) ]

@@ -18,12 +18,12 @@ loop-place-preserved c = record {
             let within : c.loop-place.place < item_count c.args.module.now = omega (arith, c.loop-place-test.true, c.item_count-place-end.ensures) in
             c.check_item-checked.ensures.unaccepted within this.0 this.1)
       ];
-  not_covered = λ four.
-      elim (c.note.ensures.not_covered four) [
-        | inl before ↦ c.loop-place.invariant.not_covered before
+  uncovered = λ four.
+      elim (c.note.ensures.uncovered four) [
+        | inl before ↦ c.loop-place.invariant.uncovered before
         | inr this ↦ inr (
             let within : c.loop-place.place < item_count c.args.module.now = omega (arith, c.loop-place-test.true, c.item_count-place-end.ensures) in
-            (c.loop-place.place, within, c.check_item-checked.ensures.vector this.0 this.1))
+            (c.loop-place.place, within, c.check_item-checked.ensures.uncovered this.0 this.1))
       ];
   counted = λ enough none.
       let noted = c.note.ensures.counted enough in

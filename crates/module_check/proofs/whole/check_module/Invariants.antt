@@ -1,6 +1,7 @@
 use Rattle.std.proofs.Common.{◌≡◌, ◌≢◌, ◌⊎◌, ◌≤◌, length}
-use Rattle.module_check.specs.Items.{AreSafeBelow, HasUncovered}
+use Rattle.module_check.specs.Items.{AreSafeBelow}
 use Rattle.module_check.specs.Loaded.{IsAcceptedModule}
+use Rattle.module_check.specs.UncoveredModule.{HasUncovered}
 use Rattle.module_check.specs.Verdicts.{IsConsistent, SaysNo, total}
 use Rattle.module_check.proofs.whole.check_module.Given as goal
 
@@ -13,6 +14,6 @@ invariant-loop-place l =
       safe : l.out.status ≡ 0 → AreSafeBelow l.module l.place;
       known : l.fn.out.status ≤ 4 → l.out.status ≤ 4;
       refused : SaysNo l.out.status → SaysNo l.fn.out.status ⊎ ¬ IsAcceptedModule l.module;
-      not_covered : l.out.status ≡ 4 → (l.fn.out.status ≡ 4) ⊎ HasUncovered l.module;
+      uncovered : l.out.status ≡ 4 → (l.fn.out.status ≡ 4) ⊎ HasUncovered l.module;
       counted : l.out.status ≢ 3 → total l.fn.out ≡ 0 → total l.out ≡ l.place;
     }

@@ -3,8 +3,9 @@ use Rattle.std.proofs.Common.{◌≡◌, ◌∙◌, true, false, sym, ap, subst}
 use Rattle.validate_operators.specs.Start.{state}
 use Rattle.validate_func.specs.Functions.{function_state, body_state}
 use Rattle.validate_stacks.specs.State.{IsValidBody}
+use Rattle.validate_types.specs.Features.{has, simd}
 use Rattle.c_api.specs.Functions.{InProgress, module_under, Takes}
-use Rattle.c_api.specs.Modules.{context_in}
+use Rattle.c_api.specs.Modules.{context_in, features_in}
 use Rattle.c_api.specs.Operators.{HasNoRow}
 use Rattle.c_api.specs.VisitsMade.{IsVisited}
 use Rattle.c_api.proofs.Untaken.{sound_refused}
@@ -56,3 +57,15 @@ returns-in-Err-Refused-clause-cannot c = λ memory none_failed open_frame.
     subst (λ (g : InProgress). HasNoRow (module_under g) c.args.bytes.now (body_state g)) c.self.view_is
     (subst (λ h. HasNoRow h c.args.bytes.now (state c.self.inside.visits.validator)) c.deref.ensures
     (c.in-Err-Refused.ensures.refused (rw c.in-Err-Refused.field-0-is (c.of_refusal-verdict.ensures.memory memory))))
+
+pub returns-in-Err-Unread-clause-uncovered : goal.returns-in-Err-Unread-clause-uncovered
+returns-in-Err-Unread-clause-uncovered c = λ at uncovered.
+    let is_on = c.under-verdict.ensures.proposal at uncovered in
+    let was = sym (c.under-verdict.ensures.same is_on) ∙ uncovered in
+    record {
+      begins = c.in-Err-Unread.ensures.uncovered (rw c.in-Err-Unread.field-0-is (c.unread.ensures.uncovered at was));
+      is_on = subst (λ (g : InProgress). has (features_in (module_under g)) simd ≡ true) c.self.view_is
+          (subst (λ fs. has fs simd ≡ true) (c.features.ensures ∙ ap features_in c.deref-in-Err-Unread.ensures) is_on);
+      none_failed = sym (ap (λ (g : InProgress). g.failed) c.self.view_is) ∙ c.if-self.false;
+      is_open = λ none. let clash : true ≡ false = sym c.if-not-is_open.false ∙ c.has_open_frame-is_open.ensures.1 none in absurd cc;
+    }

@@ -18,7 +18,17 @@ returns-clause-refused c = λ refused memory types are a.
     there (wherever (declared c.args.self.now) (operator_features c.args.self.now.features) c.args.kind (may_stand c.args.constant) c.args.bytes.now.left types c.types-types.result
     (are.canonical ∙ sym c.types-types.ensures.canonical) (are.behind ∙ sym c.types-types.ensures.behind) a)
 
-pub returns-clause-vector : goal.returns-clause-vector
-returns-clause-vector c = λ offset vector.
-    let code = c.check_body.ensures.vector offset vector in
+pub returns-clause-uncovered : goal.returns-clause-uncovered
+returns-clause-uncovered c = λ offset uncovered.
+    let code = c.check_body.ensures.uncovered offset uncovered in
+    (c.types-types.result, c.types-types.ensures, rw (c.operator_features-features.ensures, c.duplicate-reader.ensures) at code)
+
+pub returns-clause-malformed : goal.returns-clause-malformed
+returns-clause-malformed c = λ error malformed.
+    let code = c.check_body.ensures.malformed error malformed in
+    (c.types-types.result, c.types-types.ensures, rw (c.operator_features-features.ensures, c.duplicate-reader.ensures) at code)
+
+pub returns-clause-invalid : goal.returns-clause-invalid
+returns-clause-invalid c = λ error refused.
+    let code = c.check_body.ensures.invalid error refused in
     (c.types-types.result, c.types-types.ensures, rw (c.operator_features-features.ensures, c.duplicate-reader.ensures) at code)

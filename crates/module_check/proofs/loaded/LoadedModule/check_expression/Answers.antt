@@ -27,9 +27,9 @@ returns-clause-refused c = λ refused memory a.
     c.check_bytes.ensures.refused refused memory a.types a.has_place.are_types
     (subst (λ (ty : ValType). IsAcceptedCode (declared m) (operator_features m.features) a.types (Expression ty) (is_constant_in m.features (declarations m) e.place) e.bytes.left) same a.is_accepted)
 
-pub returns-clause-vector : goal.returns-clause-vector
-returns-clause-vector c = λ offset vector.
-    let code = c.check_bytes.ensures.vector offset vector in
+pub returns-clause-uncovered : goal.returns-clause-uncovered
+returns-clause-uncovered c = λ offset uncovered.
+    let code = c.check_bytes.ensures.uncovered offset uncovered in
     record {
       value_type = c.in-Some.ty;
       types = code.0;

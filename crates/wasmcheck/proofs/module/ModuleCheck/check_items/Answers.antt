@@ -1,8 +1,19 @@
 -- One more item is checked.
+use Rattle.std.proofs.Common.{◌<◌, inl, inr, arith}
+use Rattle.module_check.specs.Items.{item_count}
 use Rattle.module_check.proofs.Row.{one_more}
 use Rattle.wasmcheck.proofs.module.ModuleCheck.check_items.Goals as goal
 
 pub loop-place-preserved : goal.loop-place-preserved
-loop-place-preserved g c = λ valid.
-    let counted = c.in_ok-check_item.ensures valid in
-    one_more c.args.self.now.module.now c.loop-place.place (c.loop-place.invariant counted.0) counted.1
+loop-place-preserved g c = record {
+  safe = λ valid.
+      let counted = c.in_ok-check_item.ensures.valid valid in
+      one_more c.args.self.now.module.now c.loop-place.place (c.loop-place.invariant.safe counted.0) counted.1;
+  uncovered = λ is.
+      elim (c.in_ok-check_item.ensures.uncovered is) [
+        | inl before ↦ c.loop-place.invariant.uncovered before
+        | inr this ↦ inr (
+            let within : c.loop-place.place < item_count c.args.self.now.module.now = omega (arith, c.loop-place-test.true, c.item_count-all.ensures) in
+            (c.loop-place.place, within, this))
+      ];
+}

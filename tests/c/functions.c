@@ -249,11 +249,11 @@ static void try_locals(void) {
     tansyattic_free_function(&function);
 }
 
-/* Bytes that end in a section: what is put behind them to read what they declare isn't told of. Here that is the length of
-   121 bodies, whose first byte is the prefix of vector operators. */
+/* Bytes that end in a section: what is put behind them to read what they declare isn't told of. Here the section would end
+   with what is put behind them, the code section of 121 bodies, whose second byte is the prefix of vector operators. */
 static void try_cut(void) {
     static const uint8_t head[] = {0, 'a', 's', 'm', 1, 0, 0, 0, 1, 4, 1, 0x60, 0, 0, 3, 122, 121};
-    static const uint8_t tail[] = {6, 10, 1, 0x7f, 0};
+    static const uint8_t tail[] = {6, 0x85, 1, 1, 0x7f, 0};
     uint8_t bytes[sizeof head + 121 + sizeof tail] = {0};
     struct tansyattic_module module = TANSYATTIC_NONE;
     memcpy(bytes, head, sizeof head);

@@ -46,12 +46,12 @@ fn load_from_array<A: Refused, R: WasmModuleResources>(
 #[inline(always)]
 fn load<A: Refused, R: WasmModuleResources>(
     body: Body<'_, '_, R>,
-    memarg: MemArg,
+    memarg: &MemArg,
     ty: ValType,
 ) -> Result<(), A>
     requires visit { MayBegin R.context body }
     requires number { is_number_or_vector ty ≡ true }
-    ensures { Makes R.context A.tells (λ cx. row_operator (load_row cx memarg ty)) body.entry
+    ensures { Makes R.context A.tells (λ cx. row_operator (load_row cx memarg.now ty)) body.entry
         result body.exit }
 {
     match memarg.target {
@@ -59,7 +59,7 @@ fn load<A: Refused, R: WasmModuleResources>(
             let index_type = check_memory_access(body.resources, memarg, memory_index)?;
             unary(body, index_type, ty)
         }
-        MemArgTarget::Array(type_index) => { load_from_array(body, memarg, type_index, ty) }
+        MemArgTarget::Array(type_index) => { load_from_array(body, *memarg, type_index, ty) }
     }
 }
 
@@ -86,12 +86,12 @@ fn store_in_array<A: Refused, R: WasmModuleResources>(
 #[inline(always)]
 fn store<A: Refused, R: WasmModuleResources>(
     body: Body<'_, '_, R>,
-    memarg: MemArg,
+    memarg: &MemArg,
     ty: ValType,
 ) -> Result<(), A>
     requires visit { MayBegin R.context body }
     requires number { is_number_or_vector ty ≡ true }
-    ensures { Makes R.context A.tells (λ cx. row_operator (store_row cx memarg ty)) body.entry
+    ensures { Makes R.context A.tells (λ cx. row_operator (store_row cx memarg.now ty)) body.entry
         result body.exit }
 {
     match memarg.target {
@@ -99,7 +99,7 @@ fn store<A: Refused, R: WasmModuleResources>(
             let index_type = check_memory_access(body.resources, memarg, memory_index)?;
             pop_both(body, index_type, ty)
         }
-        MemArgTarget::Array(type_index) => store_in_array(body, memarg, type_index, ty),
+        MemArgTarget::Array(type_index) => store_in_array(body, *memarg, type_index, ty),
     }
 }
 
@@ -196,28 +196,28 @@ fn drop_types<A: Refused, R: WasmModuleResources>(
 
 /// Where a load of a number loads it from, and its type.
 #[inline(always)]
-fn loaded(op: MemoryOp) -> Option<(MemArg, ValType)>
-    ensures row { IfSome result (λ a. (cx : Context) → memory_row cx op ≡ load_row cx a.0 a.1) }
+fn loaded(op: &MemoryOp) -> Option<(&MemArg, ValType)>
+    ensures row { IfSome result (λ a. (cx : Context) → memory_row cx op.now ≡ load_row cx a.0.now a.1) }
     ensures number { IfSome result (λ a. is_number_or_vector a.1 ≡ true) }
-    ensures other { result ≡ None → is_load op ≡ false }
+    ensures other { result ≡ None → is_load op.now ≡ false }
 {
     match op {
-        MemoryOp::Load(ty, memarg) => Some((memarg, number(ty))),
-        MemoryOp::LoadPacked(part, _, memarg) => Some((memarg, packed(part))),
+        MemoryOp::Load(ty, memarg) => Some((memarg, number(*ty))),
+        MemoryOp::LoadPacked(part, _, memarg) => Some((memarg, packed(*part))),
         _ => None,
     }
 }
 
 /// Where a store of a number stores it, and its type.
 #[inline(always)]
-fn stored(op: MemoryOp) -> Option<(MemArg, ValType)>
-    ensures row { IfSome result (λ a. (cx : Context) → memory_row cx op ≡ store_row cx a.0 a.1) }
+fn stored(op: &MemoryOp) -> Option<(&MemArg, ValType)>
+    ensures row { IfSome result (λ a. (cx : Context) → memory_row cx op.now ≡ store_row cx a.0.now a.1) }
     ensures number { IfSome result (λ a. is_number_or_vector a.1 ≡ true) }
-    ensures other { result ≡ None → is_store op ≡ false }
+    ensures other { result ≡ None → is_store op.now ≡ false }
 {
     match op {
-        MemoryOp::Store(ty, memarg) => Some((memarg, number(ty))),
-        MemoryOp::StorePacked(part, memarg) => Some((memarg, packed(part))),
+        MemoryOp::Store(ty, memarg) => Some((memarg, number(*ty))),
+        MemoryOp::StorePacked(part, memarg) => Some((memarg, packed(*part))),
         _ => None,
     }
 }
@@ -259,10 +259,10 @@ pub fn memory_operator<A: Refused, R: WasmModuleResources>(
     requires { MayBegin R.context body }
     ensures { Makes R.context A.tells (λ cx. row_operator (memory_row cx op)) body.entry result body.exit }
 {
-    if let Some((memarg, ty)) = loaded(op) {
+    if let Some((memarg, ty)) = loaded(&op) {
         return load(body, memarg, ty);
     }
-    if let Some((memarg, ty)) = stored(op) {
+    if let Some((memarg, ty)) = stored(&op) {
         return store(body, memarg, ty);
     }
     whole_operator(body, op)

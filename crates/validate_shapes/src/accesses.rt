@@ -30,20 +30,20 @@ pub enum AccessKind {
 #[inline(always)]
 pub fn check_memory_access<A: Refused, R: WasmModuleResources>(
     resources: &R,
-    memarg: MemArg,
+    memarg: &MemArg,
     memory_index: u32,
 ) -> Result<ValType, A>
-    ensures found { IfOk result (λ it. address_types_for memarg
+    ensures found { IfOk result (λ it. address_types_for memarg.now
         (memory_address_types (R.context resources.now) (Memory memory_index)) ≡ Some (it ∷ [])) }
     ensures index { IfOk result (λ it. is_address_type it ≡ true) }
-    ensures refused { OnErr result (address_types_for memarg
+    ensures refused { OnErr result (address_types_for memarg.now
         (memory_address_types (R.context resources.now) (Memory memory_index)) ≡ None) }
 {
     if memarg.align > memarg.max_align {
         return Err(A::of(Refusal::AlignedMore));
     }
     let index_type = check_memory_index(resources, memory_index)?;
-    if index_type == ValType::I32 && memarg.offset > u64::from(u32::MAX) {
+    if memarg.offset > u64::from(u32::MAX) && index_type == ValType::I32 {
         return Err(A::of(Refusal::OffsetBeyond));
     }
     Ok(index_type)
@@ -111,5 +111,5 @@ pub fn check_shared_memarg<A: Refused, R: WasmModuleResources>(
     let MemArgTarget::Memory(memory_index) = memarg.target else {
         return Err(A::of(Refusal::AtomicArray));
     };
-    check_memory_access(resources, memarg, memory_index)
+    check_memory_access(resources, &memarg, memory_index)
 }

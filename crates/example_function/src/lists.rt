@@ -5,7 +5,7 @@ use std::io;
 use wasmparser_validate::operators::{OperatorValidator, OperatorValidatorAllocations, check_ops};
 use wasmparser_validate::resources::WasmModuleResources;
 use wasmparser_validate::types::{Error, Flags, WasmFeatures};
-use wasmparser_validate::visit::{ControlOp, Op, all_have_module_immediates, is_well_ordered};
+use wasmparser_validate::visit::{ControlOp, Op, is_well_ordered};
 
 /// Checks a list whole, as the body of a function of type 0: `Ok(true)` where it is accepted and closed,
 /// `Ok(false)` where it is accepted and a frame is open.
@@ -14,13 +14,16 @@ fn check_list<R: WasmModuleResources>(
     resources: &R,
     ops: &[(Op<'_>, u64)],
 ) -> Result<bool, Error> {
-    if !is_well_ordered(ops) || !all_have_module_immediates(ops) {
+    if !is_well_ordered(ops) {
         return Err(Error::new("no body has these operators", 0));
     }
     let buffers = OperatorValidatorAllocations::new(alloc);
     let mut v = OperatorValidator::new_func(0, 0, &WasmFeatures::all(), resources, buffers)?;
     let mut heights = Vec::new(alloc);
-    check_ops(&mut v, ops, resources, &mut heights).map_err(|(_, refusal)| refusal)
+    match check_ops(&mut v, ops, resources, &mut heights) {
+        Ok(closed) => Ok(closed),
+        Err((_, refusal)) => Err(refusal),
+    }
 }
 
 /// Checks the expression that reads this variable, and prints what it comes to.

@@ -22,12 +22,16 @@ use wasmparser_validate::resources::{ModuleDeclarations, ModuleLists, WasmModule
 use wasmparser_validate::types::{Error, Flags, FuncType, SubType, ValType, WasmFeatures};
 use wasmparser_validate::visit::{ControlOp, IntegerBinaryOp, IntegerType, NumericOp, Op};
 
-/// A module that declares the one type `[i32] -> [i32]`, or None where memory is wanting.
-fn declare(alloc: Global) -> Option<ModuleLists> {
+/// The type `[i32] -> [i32]`, or None where memory is wanting.
+fn unary_type(alloc: Global) -> Option<SubType> {
     let params = vec![in alloc; ValType::I32].ok()?;
     let results = vec![in alloc; ValType::I32].ok()?;
+    Some(SubType::func(FuncType::new(params, results), false))
+}
+
+/// A module that declares this one type, or None where memory is wanting.
+fn declare(alloc: Global, ty: SubType) -> Option<ModuleLists> {
     let mut declarations = ModuleDeclarations::new(alloc);
-    let ty = SubType::func(FuncType::new(params, results), false);
     declarations.types.push(ty).ok()?;
     ModuleLists::from_declarations(alloc, declarations).ok()
 }
@@ -37,9 +41,11 @@ fn declare(alloc: Global) -> Option<ModuleLists> {
 fn instantiate(alloc: Global) -> Option<Instance<ModuleLists>> {
     let first = Variable::new(Value::I32(7));
     let second = Variable::new(Value::I64(9));
+    let variables = vec![in alloc; first, second].ok()?;
+    let declared = declare(alloc, unary_type(alloc)?)?;
     Some(Instance {
-        declared: declare(alloc)?,
-        variables: vec![in alloc; first, second].ok()?,
+        declared,
+        variables,
     })
 }
 

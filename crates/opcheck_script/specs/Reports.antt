@@ -1,12 +1,11 @@
 -- What the check of a script answers (the crate's own).
 use Rattle.std.specs.Prelude.{◌≡◌, ◌⊎◌, ◌↔◌, ℕ, Bool, true, false, IsTrue, List, [], Some, Result, Ok, Err}
 use Rattle.std.specs.Prelude.{length, ◌&&◌, ◌||◌, None, IsSome, IfSome, OnOk, IfOk, IfErr}
-use Rattle.std.specs.List.{list_all, list_any}
+use Rattle.std.specs.List.{list_any}
 use Rattle.validate_types.specs.ErrorValue.{ErrorValue}
 use Rattle.validate_types.specs.declared.features.WasmFeatures.{WasmFeatures}
 use Rattle.validate_resources.specs.Context.{ModuleContext}
 use Rattle.validate_resources.specs.Lists.{Declared, context_of, module_of}
-use Rattle.validate_visit.specs.Immediates.{is_module_op}
 use Rattle.validate_visit.specs.Order.{is_well_ordered_list}
 use Rattle.validate_visit.specs.declared.body.LocalGroup.{LocalGroup}
 use Rattle.validate_visit.specs.declared.frame.BlockType.{BlockType}
@@ -24,11 +23,6 @@ use Rattle.opcheck_script.specs.declared.report.Answers.{Answers}
 use Rattle.opcheck_script.specs.declared.report.Answers.TheVariants.{Heights, Each}
 use Rattle.script_parts.specs.declared.script.BodyLine.{BodyLine}
 use Rattle.script_parts.specs.declared.script.Script.{Script}
-
--- the operators can be those of a body: they are in order, and their immediates those of a module
-abbrev pub may_be_body : List (Op × ℕ) → Bool
-may_be_body ops =
-    is_well_ordered_list (without_offsets ops) && list_all (λ (p : Op × ℕ). is_module_op p.0) ops
 
 -- What a run of operators as one list answers: whether the outermost frame is closed, where all
 -- rows hold; or the refusal of the first operator whose row doesn't. The heights are those after each
@@ -111,7 +105,7 @@ IsReport md body report = IsRun md body report ⊎ IsRefusedBefore md body repor
 -- What comes of a script with these declarations and this body: a report of a body in order, in its module; or
 -- why there is none, want of memory aside.
 pub record ChecksScript (declared : Declared) (body : ScriptBody) (answer : Result Report Failure) : Type 0 where
-  pub ordered : OnOk answer (may_be_body body.operators.ops ≡ true)
+  pub ordered : OnOk answer (is_well_ordered_list (without_offsets body.operators.ops) ≡ true)
   pub declares : OnOk answer (IsSome (module_of declared))
   pub report :
       IfOk answer (λ report. IfSome (module_of declared) (λ lists. IsReport (context_of lists) body report))
@@ -119,5 +113,5 @@ pub record ChecksScript (declared : Declared) (body : ScriptBody) (answer : Resu
       IfErr answer
       (λ failure.
       (failure ≡ OutOfMemory)
-      ⊎ ((failure ≡ BadScript Order) × (may_be_body body.operators.ops ≡ false))
+      ⊎ ((failure ≡ BadScript Order) × (is_well_ordered_list (without_offsets body.operators.ops) ≡ false))
       ⊎ ((failure ≡ BadScript Module) × (module_of declared ≡ None)))

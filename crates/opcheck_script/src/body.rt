@@ -1,8 +1,7 @@
 //! Running the operators of a body.
 
 ghost use Rattle.std.specs.Prelude.{◌≡◌, ◌≢◌, ◌<◌, ◌||◌, true, false, [], Ok, Err, Some, IfOk, IfErr, OnOk, OnErr, length, slice_get};
-ghost use Rattle.std.specs.List.{list_all, list_any};
-ghost use Rattle.validate_visit.specs.Immediates.{is_module_op};
+ghost use Rattle.std.specs.List.{list_any};
 ghost use Rattle.validate_visit.specs.Order.{is_well_ordered_list};
 ghost use Rattle.validate_stacks.specs.State.{IsStarting, body_context};
 ghost use Rattle.validate_operators.specs.Runs.{without_offsets, IsSafe};
@@ -35,7 +34,6 @@ pub fn run_operators<R: WasmModuleResources>(
 ) -> Report
     requires starting { IsStarting (R.context resources.now) (state v) }
     requires ordered { is_well_ordered_list (without_offsets ops.now) ≡ true }
-    requires immediates { list_all (λ (p : _). is_module_op p.0) ops.now ≡ true }
     requires each { length attempts.now ≡ length ops.now }
     requires allowed { may_all_be_attempted ops.now attempts.now ≡ true }
     ensures runs { Runs (R.context resources.now) (state v) shows (record {

@@ -1,12 +1,10 @@
 //! Checking a script that was read.
 
 ghost use Rattle.std.specs.Prelude.{◌≡◌, ◌⊎◌, true, length, None, Some, IfOk, IfErr};
-ghost use Rattle.std.specs.List.{list_all};
-ghost use Rattle.validate_visit.specs.Immediates.{is_module_op};
 ghost use Rattle.validate_resources.specs.Kept.{declared_lists};
 ghost use Rattle.validate_resources.specs.Lists.{module_of};
 ghost use Rattle.validate_resources.specs.Named.{declared_in};
-ghost use Rattle.opcheck_script.specs.Reports.{ChecksScript, script_body, may_be_body};
+ghost use Rattle.opcheck_script.specs.Reports.{ChecksScript, script_body};
 ghost use Rattle.script_parts.specs.Written.{may_all_be_attempted};
 ghost use Rattle.opcheck_script.specs.declared.failure.BadScript.{BadScript};
 ghost use Rattle.opcheck_script.specs.declared.failure.Failure.{Failure};
@@ -20,7 +18,7 @@ use validate_operators::begin_body;
 use validate_resources::{ModuleDeclarations, ModuleLists};
 use validate_stacks::OperatorValidatorAllocations;
 use validate_types::WasmFeatures;
-use validate_visit::{LocalGroup, Op, all_have_module_immediates, is_well_ordered};
+use validate_visit::{LocalGroup, Op, is_well_ordered};
 
 /// Checks a script: first its order, then its module, then its body.
 pub fn check_script(alloc: Global, script: Script<'_>) -> Result<Report, Failure>
@@ -69,7 +67,7 @@ fn check_operators(
       operators = record { ops = ops.now; attempts = attempts.now };
     }) result }
 {
-    if !may_be_body(ops) {
+    if !is_well_ordered(ops) {
         return Err(Failure::BadScript(BadScript::Order));
     }
     let module = module_lists(alloc, declarations)?;
@@ -81,14 +79,6 @@ fn check_operators(
             outcome: Err(refusal),
         }),
     }
-}
-
-/// Whether the operators can be those of a body: they are in order, and their immediates those of a
-/// module.
-fn may_be_body(operators: &[(Op<'_>, u64)]) -> bool
-    ensures { result ≡ may_be_body operators.now }
-{
-    is_well_ordered(operators) && all_have_module_immediates(operators)
 }
 
 /// The module of these declarations, in its canonical form.

@@ -1,11 +1,9 @@
 //! What lists of operators leave.
 
 ghost use Rattle.std.specs.Prelude.{◌≡◌, true, []};
-ghost use Rattle.std.specs.List.{list_all};
 ghost use Rattle.validate_operators.specs.Runs.{without_offsets};
 ghost use Rattle.validate_operators.specs.Start.{state};
 ghost use Rattle.validate_stacks.specs.State.{IsStarting};
-ghost use Rattle.validate_visit.specs.Immediates.{is_module_op};
 ghost use Rattle.validate_visit.specs.Order.{is_well_ordered_list};
 
 use crate::bodies::{Lookup, Task, run_body};
@@ -16,7 +14,7 @@ use std::alloc::{AllocError, Global};
 use validate_operators::{OperatorValidator, check_ops};
 use validate_resources::WasmModuleResources;
 use validate_types::Error;
-use validate_visit::{Op, all_have_module_immediates, is_well_ordered};
+use validate_visit::{Op, is_well_ordered};
 
 /// What a list of operators comes to.
 #[derive(Clone, Copy)]
@@ -78,7 +76,6 @@ fn answer_of<R: WasmModuleResources>(
 ) -> Result<bool, (usize, Error)>
     requires starting { IsStarting (R.context resources.now) (state v.old) }
     requires ordered { is_well_ordered_list (without_offsets ops.now) ≡ true }
-    requires immediates { list_all (λ (p : _). is_module_op p.0) ops.now ≡ true }
 {
     let mut heights = Vec::new(alloc);
     check_ops(v, ops, resources, &mut heights)
@@ -109,7 +106,7 @@ pub fn check_list<R: WasmModuleResources>(
 ) -> Result<(), AllocError>
     requires { IsStarting (R.context resources.now) (state v.old) }
 {
-    if !is_well_ordered(ops) || !all_have_module_immediates(ops) {
+    if !is_well_ordered(ops) {
         return tally.refuse(script, "is out of order");
     }
     let answer = answer_of(alloc, v, ops, resources);

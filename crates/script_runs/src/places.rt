@@ -10,7 +10,7 @@ use validate_func::operands_before;
 use validate_operators::OperatorValidator;
 use validate_resources::WasmModuleResources;
 use validate_types::ValType;
-use validate_visit::{Op, all_have_module_immediates, is_well_ordered};
+use validate_visit::{Op, is_well_ordered};
 
 /// Prints a line of these types, each behind a space.
 fn add_types(tally: &mut Tally, types: &[Option<ValType>]) -> Result<(), AllocError> {
@@ -32,7 +32,7 @@ pub fn add_operands<R: WasmModuleResources>(
     requires { IsStarting (R.context resources.now) (state v.old) }
 {
     let (script, place) = at;
-    if place > ops.len() || !is_well_ordered(ops) || !all_have_module_immediates(ops) {
+    if place > ops.len() || !is_well_ordered(ops) {
         return tally.refuse(script, "is out of order");
     }
     match operands_before(alloc, v, ops, resources, place) {

@@ -1,11 +1,9 @@
 //! What the program prints of a body, over any lookup.
 
 ghost use Rattle.std.specs.Prelude.{◌≡◌, true, IfOk};
-ghost use Rattle.std.specs.List.{list_all};
 ghost use Rattle.validate_operators.specs.Runs.{without_offsets};
 ghost use Rattle.validate_operators.specs.Start.{state};
 ghost use Rattle.validate_stacks.specs.State.{IsStarting};
-ghost use Rattle.validate_visit.specs.Immediates.{is_module_op};
 ghost use Rattle.validate_visit.specs.Order.{is_well_ordered_list};
 
 use crate::tally::Tally;
@@ -16,7 +14,7 @@ use validate_operators::{OperatorValidator, begin_body};
 use validate_resources::WasmModuleResources;
 use validate_stacks::OperatorValidatorAllocations;
 use validate_types::{Error, WasmFeatures};
-use validate_visit::{LocalGroup, all_have_module_immediates, is_well_ordered};
+use validate_visit::{LocalGroup, is_well_ordered};
 
 /// Prints what the program prints of a body whose check came to this.
 fn add_report(
@@ -51,7 +49,6 @@ fn add_run<R: WasmModuleResources>(
 ) -> Result<(), AllocError>
     requires starting { IsStarting (R.context resources.now) (state v) }
     requires ordered { is_well_ordered_list (without_offsets operators.now.ops.items) ≡ true }
-    requires immediates { list_all (λ (p : _). is_module_op p.0) operators.now.ops.items ≡ true }
 {
     let (ops, attempts) = (operators.ops.as_slice(), operators.attempts.as_slice());
     let check = run_operators(alloc, v, ops, attempts, shows, resources);
@@ -83,7 +80,7 @@ pub fn add_printed<R: WasmModuleResources>(
     (script, shows): (&str, bool),
 ) -> Result<(), AllocError> {
     let ops = operators.ops.as_slice();
-    if !is_well_ordered(ops) || !all_have_module_immediates(ops) {
+    if !is_well_ordered(ops) {
         return tally.refuse(script, "is out of order");
     }
     match begun(alloc, resources, features, begin) {

@@ -1,8 +1,6 @@
 //! Checking a body, and the best time of many.
 
 ghost use Rattle.std.specs.Prelude.{◌≡◌, [], true, None, Ok};
-ghost use Rattle.std.specs.List.{list_all};
-ghost use Rattle.validate_visit.specs.Immediates.{is_module_op};
 ghost use Rattle.validate_visit.specs.Order.{is_well_ordered_list};
 ghost use Rattle.validate_operators.specs.Runs.{without_offsets};
 ghost use Rattle.validate_operators.specs.Start.{state, stacks_of};
@@ -18,7 +16,7 @@ use std::time::Instant;
 use validate_operators::{OperatorValidator, check_ops, try_op};
 use validate_resources::WasmModuleResources;
 use validate_types::WasmFeatures;
-use validate_visit::{LocalGroup, Op, all_have_module_immediates, is_well_ordered};
+use validate_visit::{LocalGroup, Op, is_well_ordered};
 
 /// How a body is checked.
 #[derive(Clone, Copy)]
@@ -59,7 +57,7 @@ pub fn best_time<R: WasmModuleResources>(
     begin: (BodyLine, &[LocalGroup]),
     operators: &Operators<'_>,
 ) -> Result<u128, Unmeasured> {
-    if !is_well_ordered(&operators.ops) || !all_have_module_immediates(&operators.ops) {
+    if !is_well_ordered(&operators.ops) {
         return Err(Unmeasured::Script);
     }
     let mut heights = Vec::new(rt.alloc());
@@ -90,7 +88,6 @@ fn is_accepted_by<R: WasmModuleResources>(
 ) -> bool
     requires starting { IsStarting (R.context resources.now) (state validator.old) }
     requires ordered { is_well_ordered_list (without_offsets operators.now.ops.items) ≡ true }
-    requires immediates { list_all (λ (pair : _). is_module_op pair.0) operators.now.ops.items ≡ true }
     requires empty { heights.old.items ≡ [] }
 {
     match checker {
@@ -116,7 +113,6 @@ fn time_by<R: WasmModuleResources>(
 ) -> Result<u128, Unmeasured>
     requires starting { IsStarting (R.context resources.now) (state validator.old) }
     requires ordered { is_well_ordered_list (without_offsets operators.now.ops.items) ≡ true }
-    requires immediates { list_all (λ (pair : _). is_module_op pair.0) operators.now.ops.items ≡ true }
     requires empty { heights.old.items ≡ [] }
 {
     let since = Instant::now(rt).map_err(|_| Unmeasured::Host)?;
@@ -139,7 +135,6 @@ fn time<R: WasmModuleResources>(
     heights: &mut Vec<(usize, usize)>,
 ) -> Result<u128, Unmeasured>
     requires ordered { is_well_ordered_list (without_offsets operators.now.ops.items) ≡ true }
-    requires immediates { list_all (λ (pair : _). is_module_op pair.0) operators.now.ops.items ≡ true }
     requires empty { heights.old.items ≡ [] }
 {
     match begun(rt.alloc(), resources, features, begin) {

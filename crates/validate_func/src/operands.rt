@@ -1,8 +1,6 @@
 //! The types of the operands between operators.
 
 ghost use Rattle.std.specs.Prelude.{◌≡◌, ◌≤◌, ◌<◌, true, Some, length, OnOk, IfOk, IfErr};
-ghost use Rattle.std.specs.List.{list_all};
-ghost use Rattle.validate_visit.specs.Immediates.{is_module_op};
 ghost use Rattle.validate_visit.specs.Order.{is_well_ordered_list};
 ghost use Rattle.validate_visit.specs.declared.frame.BlockType.{BlockType};
 ghost use Rattle.validation_rules.specs.Static.{start, operand_count};
@@ -39,7 +37,6 @@ pub fn operands_before<R: WasmModuleResources>(
 ) -> Result<Vec<Option<ValType>>, (usize, Error)>
     requires starting { IsStarting (R.context resources.now) (state v.old) }
     requires ordered { is_well_ordered_list (without_offsets ops.now) ≡ true }
-    requires immediates { list_all (λ (p : _). is_module_op p.0) ops.now ≡ true }
     requires within { k ≤ length ops.now }
 
     // All rows before operator k hold where it answers Ok, and the validator is in the state before it.

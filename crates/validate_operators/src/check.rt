@@ -1,9 +1,7 @@
 //! The check of a whole list of operators.
 
 ghost use Rattle.std.specs.Prelude.{◌≡◌, ◌<◌, ◌↔◌, [], true, length, IsTrue, IfOk, OnOk, IfErr, MatchResult, Some};
-ghost use Rattle.std.specs.List.{list_all};
 ghost use Rattle.std.specs.Vec.{vec_capacity, vec_len};
-ghost use Rattle.validate_visit.specs.Immediates.{is_module_op};
 ghost use Rattle.validate_visit.specs.Order.{is_well_ordered_list};
 ghost use Rattle.validate_stacks.specs.Pops.{IsKept};
 ghost use Rattle.validate_stacks.specs.State.{IsStarting, IsValidBody};
@@ -24,8 +22,7 @@ use validate_visit::Op;
 /// `heights` has `k` entries then.
 ///
 /// Conditions: the validator is in a starting state for this lookup, the list is well ordered
-/// ([`validate_visit::is_well_ordered`]), its immediates are those of a module
-/// ([`validate_visit::all_have_module_immediates`]), and `heights` is empty.
+/// ([`validate_visit::is_well_ordered`]), and `heights` is empty.
 pub fn check_ops<R: WasmModuleResources>(
     v: &mut OperatorValidator,
     ops: &[(Op, u64)],
@@ -34,7 +31,6 @@ pub fn check_ops<R: WasmModuleResources>(
 ) -> Result<bool, (usize, Error)>
     requires starting { IsStarting (R.context resources.now) (state v.old) }
     requires ordered { is_well_ordered_list (without_offsets ops.now) ≡ true }
-    requires immediates { list_all (λ (p : _). is_module_op p.0) ops.now ≡ true }
     requires empty { heights.old.items ≡ [] }
 
     // All rows hold where it answers Ok, and the validator is in the last state of the run.

@@ -37,8 +37,8 @@ use validate_visit::{
 /// Nothing is asked of the operator. An `else`, `catch`, `catch_all` or `delegate` is refused where the
 /// innermost frame isn't one that it can end; a reader of binary modules asks `current_frame()` before it, to
 /// tell a malformed module from an invalid body. An index is refused that names nothing in the module, and so
-/// is a type that isn't valid there. That the operators are well ordered, and their immediates those of a
-/// module (none is the id of a type), is asked by `check_ops` alone, of its list.
+/// is a type that isn't valid there. That the operators are well ordered is asked by `check_ops` alone, of its
+/// list.
 #[derive(Drop)]
 pub struct WasmProposalValidator<'validator, 'resources, R> {
     /// The operator's offset, which a refusal carries.

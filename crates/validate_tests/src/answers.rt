@@ -15,7 +15,7 @@ use wasmparser_validate::func::FuncValidator;
 use wasmparser_validate::operators::{OperatorValidator, check_ops, try_and_undo, try_op};
 use wasmparser_validate::resources::WasmModuleResources;
 use wasmparser_validate::types::Error;
-use wasmparser_validate::visit::{Op, all_have_module_immediates, is_well_ordered};
+use wasmparser_validate::visit::{Op, is_well_ordered};
 
 /// The offset of each operator that is visited by itself.
 const OFFSET: u64 = 7;
@@ -227,7 +227,7 @@ pub fn add_list<R: WasmModuleResources>(
 )
     requires { IsStarting (R.context lists.now) (state v.old) }
 {
-    if is_well_ordered(ops) && all_have_module_immediates(ops) {
+    if is_well_ordered(ops) {
         let mut heights = Vec::new(rt.alloc());
         let answer = check_ops(v, ops, lists, &mut heights);
         expect(rt, has_rising_heights(v));

@@ -2,9 +2,7 @@
 //! list.
 
 ghost use Rattle.std.specs.Prelude.{◌≡◌, true};
-ghost use Rattle.std.specs.List.{list_all};
 ghost use Rattle.validate_operators.specs.Runs.{without_offsets};
-ghost use Rattle.validate_visit.specs.Immediates.{is_module_op};
 ghost use Rattle.validate_visit.specs.Order.{is_well_ordered_list};
 ghost use Rattle.validate_stacks.specs.State.{IsStarting};
 ghost use Rattle.wasmparser_validate.specs.Start.{state};
@@ -120,8 +118,7 @@ fn constant(
 
 /// The operators are in order, and all their immediates are those of a module.
 fn expect_module_ops(rt: &impl Abort, ops: &[(Op<'_>, u64)])
-    ensures ordered { is_well_ordered_list (without_offsets ops.now) ≡ true }
-    ensures immediates { list_all (λ (p : _). is_module_op p.0) ops.now ≡ true }
+    ensures { is_well_ordered_list (without_offsets ops.now) ≡ true }
 {
     expect(rt, is_well_ordered(ops));
     expect(rt, all_have_module_immediates(ops));

@@ -1,6 +1,5 @@
 use Rattle.std.proofs.Common.{rules, inl, sym, ◌∙◌}
 use Rattle.validate_operators.specs.Start.{state}
-use Rattle.std.proofs.lemmas.Bool.{and_parts}
 use Rattle.opcheck_script.proofs.Reports.{of_module}
 use Rattle.opcheck_script.proofs.script.check_operators.Goals as goal
 
@@ -26,11 +25,9 @@ returns-in-Ok c =
 
 pub run_operators-requires : goal.run_operators-requires
 run_operators-requires c =
-    let may = and_parts _ _ (sym c.may_be_body.ensures ∙ c.if-not-may_be_body.false) in
     record {
       starting = c.in-Ok.ensures.starting;
-      ordered = may.0;
-      immediates = may.1;
+      ordered = sym c.is_well_ordered.ensures ∙ c.if-not-is_well_ordered.false;
       each = c.requires.each;
       allowed = c.requires.allowed;
     }

@@ -4,4 +4,4 @@ use Rattle.validate_operators.proofs.safety.safety_law.Goals as goal
 pub returns : goal.returns
 returns g c =
     let md = g.R.WasmModuleResources.context c.args._resources.now in
-    λ v ops _ _ _ a ty s. safe_accepted md v ops ty (g.met.R.WasmModuleResources.lawful c.args._resources.now) s a
+    λ v ops _ a ty s. safe_accepted md v ops ty (g.met.R.WasmModuleResources.lawful c.args._resources.now) s a

@@ -113,12 +113,23 @@ fn print_body(rt: &HostRuntime, module: &LoadedModule<'_>, function: u32) -> io:
         return Ok(Verdict::Refused(Error::new("the module has no such body", 0)));
     };
     let features = module.features().operator_features();
-    let resources = module.resources();
-    let verdict = match start(rt.alloc(), resources, &features, ty, &mut code) {
-        Ok(mut v) => print_operators(rt, &mut v, resources, module.bytes(), &mut code)?,
-        Err(error) => Verdict::of_check(Err(error)),
-    };
+    let verdict = print_code(rt, module, &features, ty, &mut code)?;
     Ok(verdict.under(&features))
+}
+
+/// Prints the body of a function of this type, whose code this is, and answers what it comes to.
+fn print_code(
+    rt: &HostRuntime,
+    module: &LoadedModule<'_>,
+    features: &WasmFeatures,
+    ty: u32,
+    code: &mut CodeReader<'_>,
+) -> io::Result<Verdict> {
+    let resources = module.resources();
+    match start(rt.alloc(), resources, features, ty, code) {
+        Ok(mut v) => print_operators(rt, &mut v, resources, module.bytes(), code),
+        Err(error) => Ok(Verdict::of_check(Err(error))),
+    }
 }
 
 /// Whether a word is the index or the name of a function.
@@ -141,15 +152,19 @@ fn function_named(alloc: Global, module: &LoadedModule<'_>, word: &str) -> Optio
     None
 }
 
-/// Prints the body of the function that the first word names, or of the first function where there is no word.
-fn print_named(rt: &HostRuntime, module: &LoadedModule<'_>) -> io::Result<()> {
+/// The function that the first word names, or the first one where there is no word.
+fn wanted_function(rt: &HostRuntime, module: &LoadedModule<'_>) -> io::Result<Option<u32>> {
     let mut words = env::args(rt)?;
     let _program = words.next();
-    let function = match words.next() {
+    Ok(match words.next() {
         Some(word) => function_named(rt.alloc(), module, word.as_str()),
         None => Some(module.function_of(0)),
-    };
-    match function {
+    })
+}
+
+/// Prints the body of the function that is wanted.
+fn print_wanted(rt: &HostRuntime, module: &LoadedModule<'_>) -> io::Result<()> {
+    match wanted_function(rt, module)? {
         Some(function) => {
             let verdict = print_body(rt, module, function)?;
             print_verdict(rt, &verdict)
@@ -172,7 +187,7 @@ fn main(rt: HostRuntime) -> io::Result<()> {
     let mut bytes = Vec::new(rt.alloc());
     rt.reader().read_to_end(&mut bytes)?;
     match LoadedModule::new(rt.alloc(), &bytes, ModuleFeatures::DEFAULT) {
-        Ok(module) => print_named(&rt, &module),
+        Ok(module) => print_wanted(&rt, &module),
         Err(verdict) => print_verdict(&rt, &verdict),
     }
 }

@@ -111,7 +111,20 @@ fn add_body<R: WasmModuleResources>(
     walked
 }
 
-/// Begins a body, and adds what is asked of it: nothing, where its locals are refused.
+/// Begins a body by its validator, which is new, and adds what is asked of it: nothing, where its locals are refused.
+fn add_from_begin<R: WasmModuleResources>(
+    v: &mut OperatorValidator,
+    resources: &R,
+    features: &WasmFeatures,
+    code: &mut Code<'_>,
+    asked: Asked<'_>,
+    walk: &mut Walk<'_>,
+) -> Result<(), Stop> {
+    begin(v, resources, features, code)?;
+    add_body(v, resources, code, asked, walk)
+}
+
+/// Adds what is asked of a body, in a validator of its own.
 fn add_code<R: WasmModuleResources>(
     resources: &R,
     features: &WasmFeatures,
@@ -121,10 +134,7 @@ fn add_code<R: WasmModuleResources>(
 ) -> Result<(), Stop> {
     let buffers = OperatorValidatorAllocations::new(walk.alloc);
     let mut v = OperatorValidator::new(features, buffers);
-    match begin(&mut v, resources, features, code) {
-        Ok(()) => add_body(&mut v, resources, code, asked, walk),
-        Err(stop) => Err(stop),
-    }
+    add_from_begin(&mut v, resources, features, code, asked, walk)
 }
 
 /// A walk through a body that begins at this offset of the module's bytes.

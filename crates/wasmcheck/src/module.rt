@@ -287,6 +287,24 @@ fn check_named<W: Write>(
     Ok(progress.tally.outcome.or(traced))
 }
 
+/// Checks a module of which nothing is checked yet.
+fn check_anew<W: Write>(
+    rt: &HostRuntime,
+    out: &mut W,
+    check: &ModuleCheck<'_, '_, '_>,
+) -> io::Result<Outcome>
+    ensures valid { IfOk result (λ outcome. outcome ≡ Valid → IsValid check.now.module.now) }
+    ensures uncovered { IfOk result (λ outcome. outcome ≡ NotCovered
+        → HasUncovered check.now.module.now) }
+{
+    let mut progress = Progress {
+        buffers: BodyBuffers::new(rt.alloc()),
+        tally: Tally::new(check.module.merged()),
+        has_traced: false,
+    };
+    check_named(rt, out, check, &mut progress)
+}
+
 /// Checks a module that was read, with the names of its functions.
 fn check_module<W: Write>(
     rt: &HostRuntime,
@@ -297,21 +315,20 @@ fn check_module<W: Write>(
     ensures valid { IfOk result (λ outcome. outcome ≡ Valid → IsValid module.now) }
     ensures uncovered { IfOk result (λ outcome. outcome ≡ NotCovered → HasUncovered module.now) }
 {
-    let Ok(names) = module.names(rt.alloc()) else {
-        let refused = write_module(out, options.lines, options.detail, &Verdict::OutOfMemory)?;
-        return Ok(refused);
-    };
-    let check = ModuleCheck {
-        options,
-        module,
-        names,
-    };
-    let mut progress = Progress {
-        buffers: BodyBuffers::new(rt.alloc()),
-        tally: Tally::new(module.merged()),
-        has_traced: false,
-    };
-    check_named(rt, out, &check, &mut progress)
+    match module.names(rt.alloc()) {
+        Ok(names) => {
+            let check = ModuleCheck {
+                options,
+                module,
+                names,
+            };
+            check_anew(rt, out, &check)
+        }
+        Err(_) => {
+            let refused = write_module(out, options.lines, options.detail, &Verdict::OutOfMemory)?;
+            Ok(refused)
+        }
+    }
 }
 
 /// Checks the module of these bytes, and writes and answers what it comes to: that it is valid, only if it is.
@@ -324,10 +341,7 @@ pub fn check_bytes<W: Write>(
     ensures valid { IfOk result (λ outcome. outcome ≡ Valid → AreValidModule options.entry.features bytes.now) }
 {
     match LoadedModule::new(rt.alloc(), bytes, options.features) {
-        Ok(module) => {
-            let outcome = check_module(rt, out, options, &module)?;
-            Ok(outcome)
-        }
+        Ok(module) => check_module(rt, out, options, &module),
         Err(verdict) => {
             let refused = write_module(out, options.lines, options.detail, &verdict)?;
             Ok(refused)

@@ -94,31 +94,46 @@ fn greatest_of_control(op: &ControlOp<'_>) -> Option<u32> {
     }
 }
 
+/// The same of an operator on references.
+fn label_of_reference(op: &ReferenceOp) -> Option<u32> {
+    match op {
+        ReferenceOp::BrOnNull(label) | ReferenceOp::BrOnNonNull(label) => Some(*label),
+        ReferenceOp::BrOnCast(cast)
+        | ReferenceOp::BrOnCastFail(cast)
+        | ReferenceOp::BrOnCastDescEq(cast)
+        | ReferenceOp::BrOnCastDescEqFail(cast) => Some(cast.relative_depth),
+        _ => None,
+    }
+}
+
+/// The same of an operator on exceptions.
+fn greatest_of_exception(op: &ExceptionOp<'_>) -> Option<u32> {
+    match op {
+        ExceptionOp::Delegate(label) | ExceptionOp::Rethrow(label) => Some(*label),
+        ExceptionOp::TryTable(table) => greatest_of_clauses(table.catches),
+        _ => None,
+    }
+}
+
+/// The same of an operator on continuations.
+fn greatest_of_continuation(op: &ContinuationOp<'_>) -> Option<u32> {
+    match op {
+        ContinuationOp::Resume { resume_table, .. }
+        | ContinuationOp::ResumeThrow { resume_table, .. }
+        | ContinuationOp::ResumeThrowRef { resume_table, .. } => {
+            greatest_of_handlers(resume_table.handlers)
+        }
+        _ => None,
+    }
+}
+
 /// The greatest label that an operator names, if it names one.
 fn greatest_label(op: &Op<'_>) -> Option<u32> {
     match op {
         Op::Control(op) => greatest_of_control(op),
-        Op::Reference(op) => match op {
-            ReferenceOp::BrOnNull(label) | ReferenceOp::BrOnNonNull(label) => Some(*label),
-            ReferenceOp::BrOnCast(cast)
-            | ReferenceOp::BrOnCastFail(cast)
-            | ReferenceOp::BrOnCastDescEq(cast)
-            | ReferenceOp::BrOnCastDescEqFail(cast) => Some(cast.relative_depth),
-            _ => None,
-        },
-        Op::Exception(op) => match op {
-            ExceptionOp::Delegate(label) | ExceptionOp::Rethrow(label) => Some(*label),
-            ExceptionOp::TryTable(table) => greatest_of_clauses(table.catches),
-            _ => None,
-        },
-        Op::Continuation(op) => match op {
-            ContinuationOp::Resume { resume_table, .. }
-            | ContinuationOp::ResumeThrow { resume_table, .. }
-            | ContinuationOp::ResumeThrowRef { resume_table, .. } => {
-                greatest_of_handlers(resume_table.handlers)
-            }
-            _ => None,
-        },
+        Op::Reference(op) => label_of_reference(op),
+        Op::Exception(op) => greatest_of_exception(op),
+        Op::Continuation(op) => greatest_of_continuation(op),
         _ => None,
     }
 }

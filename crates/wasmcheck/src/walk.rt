@@ -127,7 +127,7 @@ fn step<R: WasmModuleResources>(
         None => return Err(Stop::Refusal),
     };
     let op = code.read_operator(lists)?;
-    v.check(resources, offset, op)?;
+    v.check_ref(resources, offset, &op)?;
     let shown = ShownOperator {
         offset,
         name: name_at(walk.bytes, offset).unwrap_or("?"),

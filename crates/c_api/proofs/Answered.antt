@@ -1,5 +1,5 @@
 -- What a status says of an answer.
-use Rattle.std.proofs.Common.{◌≡◌, ◌≢◌, ◌≤◌, ℕ, List, Result, Ok, Err, IfOk, IfErr, OnOk, OnErr, inl, inr, ap, ◌∙◌, sym, refl, subst, arith}
+use Rattle.std.proofs.Common.{◌≡◌, ◌≢◌, ◌≤◌, ℕ, true, false, List, Result, Ok, Err, IfOk, IfErr, OnOk, OnErr, inl, inr, ap, ◌∙◌, sym, refl, subst, arith}
 use Rattle.std.specs.Prelude.{◌⊎◌, MatchResult}
 use Rattle.module_check.specs.Verdicts.{status_of, IsCovered}
 use Rattle.module_check.specs.declared.verdict.Verdict.{Verdict}
@@ -9,6 +9,10 @@ use Rattle.c_api.specs.FunctionCalls.{OpAnswer}
 use Rattle.c_api.specs.Functions.{InProgress, Takes, CannotTake, IsUncoveredOperator}
 use Rattle.c_api.specs.declared.on_refusal.OnRefusal.{OnRefusal}
 use Rattle.c_api.specs.declared.on_refusal.OnRefusal.TheVariants.{Fail, LeaveNoTrace}
+
+-- a mark can't say both
+pub not_both : true ≡ false → ⊥
+not_both e = absurd cc
 
 -- the status of a verdict that isn't acceptance, and of one at all
 not_accepted : (v : Verdict) → v ≢ Accepted → status_of v ≡ 0 → ⊥
@@ -33,14 +37,49 @@ at_most_four (Malformed e) = omega arith
 at_most_four (NotCovered at) = omega arith
 at_most_four OutOfMemory = omega arith
 
-not_zero : (s : ℕ) → s ≡ 0 → (s ≡ 1) ⊎ (s ≡ 2) → ⊥
+pub not_zero : (s : ℕ) → s ≡ 0 → (s ≡ 1) ⊎ (s ≡ 2) → ⊥
 not_zero s z d = elim d [ inl a ↦ omega (arith, z, a) | inr b ↦ omega (arith, z, b) ]
 
-not_three : (s : ℕ) → s ≡ 3 → (s ≡ 1) ⊎ (s ≡ 2) → ⊥
+pub not_three : (s : ℕ) → s ≡ 3 → (s ≡ 1) ⊎ (s ≡ 2) → ⊥
 not_three s z d = elim d [ inl a ↦ omega (arith, z, a) | inr b ↦ omega (arith, z, b) ]
 
 not_other : (s n : ℕ) → s ≡ n → n ≢ 1 → n ≢ 2 → n ≢ 3 → (s ≡ 1) ⊎ ((s ≡ 2) ⊎ (s ≡ 3)) → ⊥
 not_other s n z a b c d = elim d [ inl e ↦ a (sym z ∙ e) | inr d ↦ elim d [ inl e ↦ b (sym z ∙ e) | inr e ↦ c (sym z ∙ e) ] ]
+
+-- what was noted at first doesn't tell of something before
+pub not_before : (s : ℕ) → s ≡ 0 → s ≡ 4 → ⊥
+not_before s z four = omega (arith, z, four)
+
+pub not_one_before : (s : ℕ) → s ≡ 0 → s ≡ 1 → ⊥
+not_one_before s z one = omega (arith, z, one)
+
+pub not_two_before : (s : ℕ) → s ≡ 0 → s ≡ 2 → ⊥
+not_two_before s z two = omega (arith, z, two)
+
+pub no_more_than_four : (s t : ℕ) → s ≡ 0 → (s ≤ 4 → t ≤ 4) → t ≤ 4
+no_more_than_four s t z known = known (omega (arith, z))
+
+pub no_more_than_five : (s t : ℕ) → s ≡ 0 → (s ≤ 4 → t ≤ 4) → t ≤ 5
+no_more_than_five s t z known = omega (arith, no_more_than_four s t z known)
+
+pub not_five : (s t : ℕ) → s ≡ 0 → (s ≤ 4 → t ≤ 4) → t ≡ 5 → ⊥
+not_five s t z known five = omega (arith, no_more_than_four s t z known, five)
+
+-- what is reported of a missing body tells of nothing else
+pub five_not_zero : (s : ℕ) → s ≡ 5 → s ≡ 0 → ⊥
+five_not_zero s five z = omega (arith, five, z)
+
+pub five_not_one : (s : ℕ) → s ≡ 5 → s ≡ 1 → ⊥
+five_not_one s five one = omega (arith, five, one)
+
+pub five_not_two : (s : ℕ) → s ≡ 5 → s ≡ 2 → ⊥
+five_not_two s five two = omega (arith, five, two)
+
+pub five_not_four : (s : ℕ) → s ≡ 5 → s ≡ 4 → ⊥
+five_not_four s five four = omega (arith, five, four)
+
+pub five_known : (s : ℕ) → s ≡ 5 → s ≤ 5
+five_known s five = omega (arith, five)
 
 -- the status is that of the answer, with which goes how many bytes were taken
 abbrev pub Tells : Result ℕ Verdict → ℕ → ℕ → ℕ → Type 0
@@ -105,6 +144,12 @@ module _ (on_refusal : OnRefusal) (bytes : List ℕ) (offset n s : ℕ) (f g : I
       none_taken = none_taken r s n 0 t;
       known = known r s n 0 t;
     }
+
+-- the same where none was taken before
+module _ (on_refusal : OnRefusal) (bytes : List ℕ) (offset n s k : ℕ) (f g : InProgress) (none : k ≡ 0) (r : Result ℕ Verdict) (t : Tells r s n k) where
+  pub op_answered : IfOk r (λ count. Takes bytes offset count f g) → IfErr r (λ v. v ≢ Accepted) → IfErr r (λ v. v ≢ OutOfMemory → CannotTake bytes f) → (on_refusal ≡ Fail → IfErr r (λ v. ((at : ℕ) → v ≢ NotCovered at) → Fails f g)) → IfErr r (λ v. (at : ℕ) → v ≡ NotCovered at → IsUncoveredOperator bytes f) → IfErr r (λ v. (at : ℕ) → v ≡ NotCovered at → g ≡ f) → (on_refusal ≡ LeaveNoTrace → OnErr r (g ≡ f)) → OpAnswer on_refusal bytes offset n s f g
+  op_answered taken refuses cannot fails vector same takes_back =
+      op_answer on_refusal bytes offset n s f g r (subst (Tells r s n) none t) taken refuses cannot fails vector same takes_back
 
 -- the same without bytes
 pub done : (r : Result (Unit {0}) Verdict) (s : ℕ) (P : Type 0) → MatchResult r (λ _. s ≡ 0) (λ v. s ≡ status_of v) → OnOk r P → IfErr r (λ v. v ≢ Accepted) → s ≡ 0 → P

@@ -1,15 +1,25 @@
 -- A function that is begun over a module, in a handle.
-use Rattle.std.proofs.Common.{◌≡◌, ℕ, None, Some, Result, Ok, Err, IfOk, sym, ap, ◌∙◌, subst}
+use Rattle.std.proofs.Common.{◌≡◌, ℕ, List, None, Some, Result, Ok, Err, IfOk, sym, ap, ◌∙◌, subst}
 use Rattle.std.specs.Prelude.{MatchResult}
 use Rattle.module_check.specs.declared.verdict.Verdict.{Verdict}
+use Rattle.binary_operators.specs.declared.types.CanonicalTypes.{CanonicalTypes}
+use Rattle.module_check.specs.Begin.{DefinesRead}
+use Rattle.module_check.specs.Loaded.{declared, features_of}
+use Rattle.module_check.specs.declared.loaded.LoadedModule.{LoadedModule}
+use Rattle.module_rules.specs.Features.{operator_features}
 use Rattle.validate_func.specs.Functions.{function_from}
-use Rattle.validate_stacks.specs.State.{BodyState}
-use Rattle.c_api.specs.Bodies.{StartsBody, IsBodyBegun}
+use Rattle.validate_operators.specs.Begin.{IsBodyStart, CannotStart}
+use Rattle.validate_operators.specs.Start.{IsFuncStart}
+use Rattle.validate_resources.specs.Context.{ModuleContext}
+use Rattle.validate_stacks.specs.State.{BodyState, IsStarting}
+use Rattle.validate_types.specs.declared.features.WasmFeatures.{WasmFeatures}
+use Rattle.validate_visit.specs.declared.body.BodyKind.{BodyKind}
+use Rattle.c_api.specs.Bodies.{StartsBody, StartsWithLocals, IsBodyBegun}
 use Rattle.c_api.specs.Calls.{OnWhole, OnHeld}
 use Rattle.c_api.specs.FunctionCalls.{OnFunction}
-use Rattle.c_api.specs.Functions.{InProgress, module_under}
+use Rattle.c_api.specs.Functions.{InProgress, IsBegun, module_under}
 use Rattle.c_api.specs.Handle.{MaybeKept}
-use Rattle.c_api.specs.Modules.{module_of}
+use Rattle.c_api.specs.Modules.{context_in, features_in, module_of}
 use Rattle.c_api.specs.declared.kept.Kept.TheVariants.{Module, Function}
 use Rattle.c_api.specs.declared.shared.HeldModule.{HeldModule}
 use Rattle.c_api.specs.declared.shared.HeldModule.TheVariants.{Whole, Declared}
@@ -40,3 +50,42 @@ module _ (s : SharedModule) (v : BodyState) (index first behind : ℕ) where
   body_begun None starts k = absurd k
   body_begun (Some (Module x)) starts k = absurd k
   body_begun (Some (Function f)) starts k = over_whole f (module_of s) (λ i. module_of s) k starts
+
+-- the lookup is what the module declares
+module _ (m : LoadedModule) (md : ModuleContext) (is : md ≡ declared m) where
+  pub starting_in : (v : BodyState) → IsStarting md v → IsStarting (declared m) v
+  starting_in v starts = subst (λ (x : ModuleContext). IsStarting x v) is starts
+
+  pub starts_with_locals : (fs : WasmFeatures) → fs ≡ operator_features (features_of m) → (ty : ℕ) (types : CanonicalTypes) (bytes behind : List ℕ) (v w : BodyState) → IsFuncStart md fs ty v → DefinesRead md types bytes behind v w → StartsWithLocals m ty types bytes behind w
+  starts_with_locals fs on ty types bytes behind v w made defined = record {
+    start = v;
+    of_type = subst (λ (x : WasmFeatures). IsFuncStart (declared m) x ty v) on (subst (λ (x : ModuleContext). IsFuncStart x fs ty v) is made);
+    has_locals = subst (λ (x : ModuleContext). DefinesRead x types bytes behind v w) is defined;
+  }
+
+  -- what is answered of the validator, whatever it is of
+  module _ {V : Type 0} (state : V → BodyState) where
+    pub all_starting : {E : Type 0} → (r : Result V E) → IfOk r (λ v. IsStarting md (state v)) → IfOk r (λ v. IsStarting (declared m) (state v))
+    all_starting (Ok v) starts = starting_in (state v) starts
+    all_starting (Err e) starts = tt
+
+    pub all_with_locals : {E : Type 0} → (r : Result V E) (fs : WasmFeatures) → fs ≡ operator_features (features_of m) → (ty : ℕ) (types : CanonicalTypes) (bytes behind : List ℕ) (v : BodyState) → IsFuncStart md fs ty v → IfOk r (λ w. DefinesRead md types bytes behind v (state w)) → IfOk r (λ w. StartsWithLocals m ty types bytes behind (state w))
+    all_with_locals (Ok w) fs on ty types bytes behind v made defined = starts_with_locals fs on ty types bytes behind v (state w) made defined
+    all_with_locals (Err e) fs on ty types bytes behind v made defined = tt
+
+-- it starts in the module's lookup, under its proposals
+module _ (s : SharedModule) (md : ModuleContext) (is : md ≡ context_in (module_of s)) where
+  pub starting_over : (v : BodyState) → IsStarting md v → IsStarting (context_in (module_of s)) v
+  starting_over v starts = subst (λ (x : ModuleContext). IsStarting x v) is starts
+
+  module _ (fs : WasmFeatures) (on : fs ≡ features_in (module_of s)) (kind : BodyKind) where
+    pub kind_begun : (v : BodyState) (f : InProgress) → f ≡ function_from s v → IsBodyStart md fs kind v → IsBegun (module_of s) kind f
+    kind_begun v f e made = record {
+      is_module = ap module_under e;
+      is_start = e ∙ sym (ap (λ (g : InProgress). function_from g.resources g.starting) e);
+      of_kind = subst (λ (x : BodyState). IsBodyStart (context_in (module_of s)) (features_in (module_of s)) kind x) (sym (ap (λ (g : InProgress). g.starting) e))
+          (subst (λ (x : WasmFeatures). IsBodyStart (context_in (module_of s)) x kind v) on (subst (λ (x : ModuleContext). IsBodyStart x fs kind v) is made));
+    }
+
+    pub cannot_start : CannotStart md fs kind → CannotStart (context_in (module_of s)) (features_in (module_of s)) kind
+    cannot_start cannot = subst (λ (x : WasmFeatures). CannotStart (context_in (module_of s)) x kind) on (subst (λ (x : ModuleContext). CannotStart x fs kind) is cannot)

@@ -2,7 +2,9 @@ pub mod Answered
 pub mod Begun
 pub mod Both
 pub mod Bytes
+pub mod Checked
 pub mod Fieldless
+pub mod Held
 pub mod Readings
 pub mod Rows
 pub mod Taken

@@ -1,12 +1,11 @@
 -- The row of a module's constant expressions and bodies.
-use Rattle.std.proofs.Common.{◌≡◌, ◌≤◌, ◌≢◌, ◌<◌, ◌+◌, ◌-◌, ℕ, zero, suc, subst, arith}
+use Rattle.std.proofs.Common.{◌≡◌, ◌≤◌, ◌<◌, ◌+◌, ◌-◌, ℕ, zero, suc, subst, arith}
 use Rattle.std.proofs.lemmas.Option.{slice_get_within}
 use mathlib.Core.Logic.{◌⊎◌, inl, inr}
-use Rattle.module_check.specs.Items.{IsSafeAt, IsRefusedAt, item_count}
-use Rattle.module_check.specs.UncoveredModule.{IsUncoveredAt}
+use Rattle.module_check.specs.Items.{IsSafeAt, item_count}
 use Rattle.module_check.specs.declared.loaded.LoadedModule.{LoadedModule}
 use Rattle.module_check.specs.declared.module_verdict.ModuleVerdict.{ModuleVerdict}
-use Rattle.c_api.specs.Items.{IsReportedAt, IsReported, AreSafeBetween, AreSafeFrom}
+use Rattle.c_api.specs.Items.{IsReportedAt, IsReported, ItemAnswer, AreSafeBetween, AreSafeFrom}
 
 either : (a b : ℕ) → (a ≤ b) ⊎ (b < a)
 either zero b = inl (omega arith)
@@ -28,14 +27,13 @@ module _ (m : LoadedModule) where
   one_more start place b i q s l = elim (either place q) [ inl past ↦ subst (IsSafeAt m) (omega (arith, past, l)) i | inr before ↦ b q s before ]
 
   -- what stands before the end is reported, where all before are safe
-  pub reported_before : (start place end : ℕ) (v : ModuleVerdict) → start ≤ place → place < item_count m → end ≡ place + 1 → AreSafeBetween m start place → IsReportedAt m place v → (v.status ≢ 3 → IsRefusedAt m place) → (v.status ≡ 4 → IsUncoveredAt m place) → IsReported m start end v
-  reported_before start place end v from inside is before at refused uncovered =
+  pub reported_before : (start place end : ℕ) (v : ModuleVerdict) → start ≤ place → place < item_count m → end ≡ place + 1 → AreSafeBetween m start place → IsReportedAt m place v → ItemAnswer m place v.status → IsReported m start end v
+  reported_before start place end v from inside is before at answer =
       let here : place ≡ end - 1 = omega (arith, is) in
       record {
         further = omega (arith, from, is);
         within = omega (arith, inside, is);
         before = subst (AreSafeBetween m start) here before;
         reported = subst (λ p. IsReportedAt m p v) here at;
-        refused = λ memory. subst (IsRefusedAt m) here (refused memory);
-        uncovered = λ four. subst (IsUncoveredAt m) here (uncovered four);
+        answer = subst (λ p. ItemAnswer m p v.status) here answer;
       }

@@ -1,7 +1,7 @@
 -- What the calls on a function say (the crate's own).
-use Rattle.std.specs.Prelude.{◌≡◌, ◌≢◌, ◌≤◌, ◌⊎◌, ℕ, List, None, Some}
+use Rattle.std.specs.Prelude.{◌≡◌, ◌≢◌, ◌≤◌, ◌⊎◌, ◌↔◌, ℕ, false, List, [], None, Some}
 use Rattle.validate_func.specs.Functions.{Fails}
-use Rattle.c_api.specs.Functions.{InProgress, Takes, CannotTake, IsUncoveredOperator}
+use Rattle.c_api.specs.Functions.{InProgress, Takes, CannotTake, IsUncoveredOperator, IsWhole}
 use Rattle.c_api.specs.Handle.{MaybeKept}
 use Rattle.c_api.specs.declared.kept.Kept.TheVariants.{Module, Function}
 use Rattle.c_api.specs.declared.on_refusal.OnRefusal.{OnRefusal}
@@ -50,3 +50,11 @@ pub record HandleAnswer
     (on_refusal : OnRefusal) (bytes : List ℕ) (offset taken status : ℕ) (o p : MaybeKept) : Type 0 where
   pub of_function : OfBoth o p (OpAnswer on_refusal bytes offset taken status)
   pub of_none : HasNoFunction o → (status ≡ 6) × (p ≡ o) × (taken ≡ 0)
+
+-- what a status says of the end of a function in a handle
+pub record FinishAnswer (o : MaybeKept) (status : ℕ) : Type 0 where
+  pub whole : status ≡ 0 → OnFunction o IsWhole
+  pub is_open : status ≢ 0 → OfFunction o (λ f. ¬ ((f.failed ≡ false) × (f.present.frames ≡ [])))
+  pub covered : status ≢ 4
+  pub none : status ≡ 6 ↔ HasNoFunction o
+  pub known : (status ≤ 4) ⊎ (status ≡ 6)

@@ -7,11 +7,18 @@ use Rattle.core.specs.contracts.option.Option as option
 use Rattle.std_heap.specs.contracts.GlobalAllocator.TheImpl.{ghosts}
 use Rattle.std_heap.specs.declared.Global.{Global}
 use Rattle.std_alloc.specs.Box.Ownership.{box_owns}
+use Rattle.std_alloc.specs.declared.boxed.Box.{Box}
 use Rattle.c_api.specs.contracts.kept.Kept.{the_row}
+use Rattle.c_api.specs.declared.kept.Kept.{Kept}
 
 -- the module or the function, or none
 abbrev pub MaybeKept : Type 0
 MaybeKept = Option the_row.Denot
+
+-- what was taken out of a handle, if it had something
+abbrev pub held_in : Option (Box Kept Global) → MaybeKept
+held_in None = None
+held_in (Some b) = Some b.value
 
 abbrev pub maybe_kept_coded : Coded MaybeKept
 maybe_kept_coded = (option.the_row the_row).coded

@@ -1,8 +1,9 @@
 -- What is reported of the constant expressions and bodies of a module in one row (the crate's own).
-use Rattle.std.specs.Prelude.{◌≡◌, ◌≢◌, ℕ, ◌-◌, ◌≤◌, ◌<◌, Some}
+use Rattle.std.specs.Prelude.{◌≡◌, ℕ, ◌-◌, ◌≤◌, ◌<◌, Some}
+use Rattle.module_check.specs.FaultyModule.{IsInvalidAt, IsMalformedAt}
 use Rattle.module_check.specs.Items.{IsItemAt, IsRefusedAt, IsSafeAt, item_count}
 use Rattle.module_check.specs.UncoveredModule.{IsUncoveredAt}
-use Rattle.module_check.specs.Verdicts.{Reports}
+use Rattle.module_check.specs.Verdicts.{Reports, SaysNo}
 use Rattle.module_check.specs.declared.loaded.LoadedModule.{LoadedModule}
 use Rattle.module_check.specs.declared.module_verdict.ModuleVerdict.{ModuleVerdict}
 use Rattle.module_check.specs.declared.verdict.Item.{Item}
@@ -22,12 +23,19 @@ pub record IsReportedAt (m : LoadedModule) (place : ℕ) (v : ModuleVerdict) : T
   pub is_there : IsItemAt m place item
   pub reports : Reports (Some item) v
 
--- Of those from the place start on, the one before the place end is reported, and those before it are safe.
--- Unless memory ran out, it isn't accepted; at the status of what isn't covered, it isn't covered.
+-- what a status says of what stands at this place of the row
+pub record ItemAnswer (m : LoadedModule) (place status : ℕ) : Type 0 where
+  pub safe : status ≡ 0 → IsSafeAt m place
+  pub refused : SaysNo status → IsRefusedAt m place
+  pub invalid : status ≡ 1 → IsInvalidAt m place
+  pub malformed : status ≡ 2 → IsMalformedAt m place
+  pub uncovered : status ≡ 4 → IsUncoveredAt m place
+
+-- Of those from the place start on, the one before the place end is reported, as the status says of it, and those
+-- before it are safe.
 pub record IsReported (m : LoadedModule) (start end : ℕ) (v : ModuleVerdict) : Type 0 where
   pub further : start < end
   pub within : end ≤ item_count m
   pub before : AreSafeBetween m start (end - 1)
   pub reported : IsReportedAt m (end - 1) v
-  pub refused : v.status ≢ 3 → IsRefusedAt m (end - 1)
-  pub uncovered : v.status ≡ 4 → IsUncoveredAt m (end - 1)
+  pub answer : ItemAnswer m (end - 1) v.status

@@ -1,5 +1,7 @@
+pub mod Answers
 pub mod Bodies
 pub mod Calls
+pub mod Found
 pub mod FunctionCalls
 pub mod FunctionInside
 pub mod Functions

@@ -1,6 +1,7 @@
 //! The call of C that begins the body of a module's function, and those of names.
 
 ghost use Rattle.std.specs.Prelude.{◌≡◌, ◌≢◌, ◌≤◌, ◌↔◌, true, false, length, None, IfOk, IfErr, IfSome};
+ghost use Rattle.module_check.specs.Begin.{DefinesRead};
 ghost use Rattle.module_check.specs.Loaded.{declared};
 ghost use Rattle.module_check.specs.Refusals.{IsVector};
 ghost use Rattle.module_check.specs.Verdicts.{IsConsistent, IsCovered};
@@ -11,9 +12,12 @@ ghost use Rattle.c_api.specs.Bodies.{IsBodyBegun, StartsBody, StartsWithLocals};
 ghost use Rattle.c_api.specs.Modules.{context_in, module_of};
 ghost use Rattle.validate_operators.specs.Start.{state};
 ghost use Rattle.validate_func.specs.Functions.{function_from};
+ghost use Rattle.validate_resources.specs.Kept.{declared_lists};
+ghost use Rattle.validate_resources.specs.Lists.{context_of};
 ghost use Rattle.validate_stacks.specs.State.{IsStarting};
 
-use crate::calls::{keep, report_no_body, status_of};
+use crate::calls::{has_own_body, keep, report_no_body, status_of};
+use crate::found::{Found, found_in};
 use crate::function::FunctionInProgress;
 use crate::function_calls::share_of;
 use crate::handle::Handle;
@@ -25,6 +29,7 @@ use module_check::{
 };
 use std::alloc::Global;
 use validate_operators::OperatorValidator;
+use validate_resources::ModuleLists;
 use validate_stacks::OperatorValidatorAllocations;
 use validate_types::Error;
 
@@ -43,9 +48,28 @@ fn start_with_locals(
     let features = loaded.features().operator_features();
     let resources = loaded.resources();
     let buffers = OperatorValidatorAllocations::new(alloc);
-    let mut v = OperatorValidator::new_func(ty, code.offset(), &features, resources, buffers)?;
-    code.define_locals(&mut v, resources)?;
-    Ok(v)
+    match OperatorValidator::new_func(ty, code.offset(), &features, resources, buffers) {
+        Ok(v) => with_locals(resources, code, v),
+        Err(refusal) => Err(CheckError::Refused(refusal)),
+    }
+}
+
+/// The validator with the locals that code begins with.
+fn with_locals(
+    resources: &ModuleLists,
+    code: &mut CodeReader<'_>,
+    mut v: OperatorValidator,
+) -> Result<OperatorValidator, CheckError>
+    requires { IsStarting (context_of (declared_lists resources.now)) (state v) }
+    ensures starting { IfOk result (λ w. IsStarting (context_of (declared_lists resources.now)) (state w)) }
+    ensures defined { IfOk result (λ w. DefinesRead (context_of (declared_lists resources.now)) code.old.types
+        code.old.reader.left code.new.reader.left (state v) (state w)) }
+    ensures covered { IfErr result (λ e. ¬ IsVector e) }
+{
+    match code.define_locals(&mut v, resources) {
+        Ok(()) => Ok(v),
+        Err(error) => Err(error),
+    }
 }
 
 /// A body that starts, with its locals, and where its operators stand.
@@ -99,7 +123,7 @@ fn has_body(held: &HeldModule, function: u32) -> bool
     ensures { result ≡ false ↔ HasNoBody held.now function }
 {
     match held {
-        HeldModule::Whole(loaded) => loaded.body_of(function).is_some(),
+        HeldModule::Whole(loaded) => has_own_body(loaded, function),
         HeldModule::Declared(_) => false,
     }
 }
@@ -223,22 +247,29 @@ pub fn operator_name(bytes: &[u8], text: &mut [u8]) -> usize {
     write_name(name_of(bytes), text)
 }
 
-/// Writes the name of a function of a module that is held.
-fn write_function_name(alloc: Global, held: &HeldModule, function: u32, text: &mut [u8]) -> usize {
-    match held {
-        HeldModule::Whole(loaded) => match loaded.names(alloc) {
-            Ok(names) => write_name(names.of(function), text),
-            Err(_) => 0,
-        },
-        HeldModule::Declared(_) => 0,
+/// Writes the name of a function of a module.
+fn write_function_name(
+    alloc: Global,
+    loaded: &LoadedModule<'_>,
+    function: u32,
+    text: &mut [u8],
+) -> usize {
+    match loaded.names(alloc) {
+        Ok(names) => write_name(names.of(function), text),
+        Err(_) => 0,
     }
 }
 
-/// The same of what a handle keeps.
-fn write_kept_name(alloc: Global, kept: &Kept, function: u32, text: &mut [u8]) -> usize {
-    match kept {
-        Kept::Module(shared) => write_function_name(alloc, &shared.held, function, text),
-        Kept::Function(_) => 0,
+/// The same of what was taken out of a handle.
+fn write_kept_name(
+    alloc: Global,
+    kept: &Option<Box<Kept>>,
+    function: u32,
+    text: &mut [u8],
+) -> usize {
+    match found_in(kept) {
+        Found::Bodies(loaded) => write_function_name(alloc, loaded, function, text),
+        Found::NoBodies | Found::NoModule => 0,
     }
 }
 
@@ -246,9 +277,7 @@ fn write_kept_name(alloc: Global, kept: &Kept, function: u32, text: &mut [u8]) -
 pub fn function_name(alloc: Global, handle: &mut Handle, function: u32, text: &mut [u8]) -> usize
     ensures { handle.new.held ≡ handle.old.held }
 {
-    let Some(kept) = handle.take(alloc) else {
-        return 0;
-    };
+    let kept = handle.take(alloc);
     let length = write_kept_name(alloc, &kept, function, text);
     handle.put_back(alloc, kept);
     length

@@ -1,6 +1,7 @@
 //! The calls of C on a module.
 
 ghost use Rattle.std.specs.Prelude.{◌≡◌, ◌≢◌, ◌⊎◌, ◌≤◌, ◌<◌, ◌-◌, ◌^◌, ◌↔◌, ℕ, length, min, true, false, None, Some, IsOk, IfOk, IfErr, IfSome, MatchResult};
+ghost use Rattle.module_check.specs.FaultyModule.{HasInvalid, HasMalformed, IsMalformedFunction, IsRefusedFunction};
 ghost use Rattle.module_check.specs.Items.{item_count};
 ghost use Rattle.module_check.specs.Loaded.{IsAcceptedFunction, IsAcceptedModule, IsSafeFunction, IsValid};
 ghost use Rattle.module_check.specs.UncoveredModule.{AreUncovered, HasUncovered, HasVectorIn, IsUncoveredFunction};
@@ -8,14 +9,16 @@ ghost use Rattle.module_check.specs.Verdicts.{IsConsistent, Reports, SaysNo, tot
 ghost use Rattle.module_check.specs.declared.verdict.Item.TheVariants.{Function};
 ghost use Rattle.module_check.specs.declared.verdict.Verdict.TheVariants.{Accepted, NotCovered};
 ghost use Rattle.module_rules.specs.Features.{of_bits};
-ghost use Rattle.c_api.specs.Calls.{OnWhole, OfWhole, OnHeld, OnModule, OfModule, OnDeclared, HaveTheSame};
-ghost use Rattle.c_api.specs.Calls.{OfHeld};
+ghost use Rattle.c_api.specs.Answers.{BodyAnswer, ModuleAnswer, NextAnswer};
+ghost use Rattle.c_api.specs.Calls.{OnHeld, OfHeld, OnModule, OfModule, OnDeclared, HaveTheSame};
 ghost use Rattle.c_api.specs.Calls.{IsLoadedFrom, IsValidModuleOf, AreDeclaredFrom};
 ghost use Rattle.c_api.specs.Calls.{HasNoModule, HasNoBody, IsDeclared};
+ghost use Rattle.c_api.specs.Handle.{held_in};
 ghost use Rattle.c_api.specs.Items.{AreSafeFrom, IsReported};
 ghost use Rattle.c_api.specs.Modules.{module_of, functions_in, imported_functions_in};
 ghost use Rattle.c_api.specs.declared.shared.HeldModule.TheVariants.{Whole};
 
+use crate::found::{Found, found_in, module_in};
 use crate::handle::Handle;
 use crate::items::check_from;
 use crate::kept::Kept;
@@ -214,18 +217,18 @@ fn status_of_memory(found: bool) -> u32
     if found { VALID } else { OUT_OF_MEMORY }
 }
 
-/// Gives a handle the module that another keeps.
-fn share_kept(alloc: Global, kept: &Kept, other: &mut Handle) -> u32
-    ensures shared { result ≡ 0 → HaveTheSame other.new.held (Some kept.now) }
+/// Gives a handle the module that was taken out of another.
+fn share_kept(alloc: Global, kept: &Option<Box<Kept>>, other: &mut Handle) -> u32
+    ensures shared { result ≡ 0 → HaveTheSame other.new.held (held_in kept.now) }
     ensures unchanged { result ≢ 0 → other.new.held ≡ other.old.held }
-    ensures none { result ≡ 6 ↔ HasNoModule (Some kept.now) }
+    ensures none { result ≡ 6 ↔ HasNoModule (held_in kept.now) }
 {
-    match kept {
-        Kept::Module(shared) => match another(shared) {
+    match module_in(kept) {
+        Some(shared) => match another(shared) {
             Some(second) => status_of_memory(keep(alloc, Kept::Module(second), other)),
             None => OUT_OF_MEMORY,
         },
-        Kept::Function(_) => NOT_LOADED,
+        None => NOT_LOADED,
     }
 }
 
@@ -237,35 +240,31 @@ pub fn share(alloc: Global, handle: &mut Handle, other: &mut Handle) -> u32
     ensures none { result ≡ 6 ↔ HasNoModule handle.old.held }
     ensures kept { handle.new.held ≡ handle.old.held }
 {
-    let Some(kept) = handle.take(alloc) else {
-        return NOT_LOADED;
-    };
+    let kept = handle.take(alloc);
     let status = share_kept(alloc, &kept, other);
     handle.put_back(alloc, kept);
     status
 }
 
-impl Kept {
-    /// How many functions the module has, the imported ones counted, or 0 where there is none.
-    fn function_count(&self) -> u32
-        ensures counted { OfHeld (Some self.now) (λ h. result ≡ min (functions_in h) (2 ^ 32 - 1)) }
-        ensures none { HasNoModule (Some self.now) → result ≡ 0 }
-    {
-        match self {
-            Kept::Module(shared) => shared.held.function_count(),
-            Kept::Function(_) => 0,
-        }
+/// How many functions the module has that was taken, the imported ones counted, or 0 where there is none.
+fn function_count(kept: &Option<Box<Kept>>) -> u32
+    ensures counted { OfHeld (held_in kept.now) (λ h. result ≡ min (functions_in h) (2 ^ 32 - 1)) }
+    ensures none { HasNoModule (held_in kept.now) → result ≡ 0 }
+{
+    match module_in(kept) {
+        Some(shared) => shared.held.function_count(),
+        None => 0,
     }
+}
 
-    /// How many of them are imported.
-    fn imported_count(&self) -> u32
-        ensures counted { OfHeld (Some self.now) (λ h. result ≡ imported_functions_in h) }
-        ensures none { HasNoModule (Some self.now) → result ≡ 0 }
-    {
-        match self {
-            Kept::Module(shared) => shared.held.imported_count(),
-            Kept::Function(_) => 0,
-        }
+/// How many of them are imported.
+fn imported_count(kept: &Option<Box<Kept>>) -> u32
+    ensures counted { OfHeld (held_in kept.now) (λ h. result ≡ imported_functions_in h) }
+    ensures none { HasNoModule (held_in kept.now) → result ≡ 0 }
+{
+    match module_in(kept) {
+        Some(shared) => shared.held.imported_count(),
+        None => 0,
     }
 }
 
@@ -275,10 +274,8 @@ pub fn functions(alloc: Global, handle: &mut Handle) -> u32
     ensures none { HasNoModule handle.old.held → result ≡ 0 }
     ensures kept { handle.new.held ≡ handle.old.held }
 {
-    let Some(kept) = handle.take(alloc) else {
-        return 0;
-    };
-    let count = kept.function_count();
+    let kept = handle.take(alloc);
+    let count = function_count(&kept);
     handle.put_back(alloc, kept);
     count
 }
@@ -289,10 +286,8 @@ pub fn imported_functions(alloc: Global, handle: &mut Handle) -> u32
     ensures none { HasNoModule handle.old.held → result ≡ 0 }
     ensures kept { handle.new.held ≡ handle.old.held }
 {
-    let Some(kept) = handle.take(alloc) else {
-        return 0;
-    };
-    let count = kept.imported_count();
+    let kept = handle.take(alloc);
+    let count = imported_count(&kept);
     handle.put_back(alloc, kept);
     count
 }
@@ -324,6 +319,13 @@ pub(crate) fn report_no_module(text: &mut [u8], out: &mut ModuleVerdict)
     out.report(NOT_LOADED, None, 0, "there is no module", text);
 }
 
+/// Whether a module has a body for the function at this index.
+pub(crate) fn has_own_body(module: &LoadedModule<'_>, function: u32) -> bool
+    ensures { result ≡ false ↔ HasNoBody (Whole «module».now) function }
+{
+    module.body_of(function).is_some()
+}
+
 /// Checks the body of the function at this index, if the module has one for it, and notes what it comes to.
 fn check_one(
     alloc: Global,
@@ -337,13 +339,15 @@ fn check_one(
     ensures consistent { IsConsistent (length text.new) out.new }
     ensures safe { out.new.status ≡ 0 → IsSafeFunction «module».now function }
     ensures refused { SaysNo out.new.status → ¬ IsAcceptedFunction «module».now function }
+    ensures invalid { out.new.status ≡ 1 → IsRefusedFunction «module».now function }
+    ensures malformed { out.new.status ≡ 2 → IsMalformedFunction «module».now function }
     ensures uncovered { out.new.status ≡ 4 → IsUncoveredFunction «module».now function }
     ensures reported { out.new.status ≢ 0 → Reports (Some (Function function)) out.new }
     ensures missing { out.new.status ≡ 5 ↔ HasNoBody (Whole «module».now) function }
     ensures known { out.new.status ≤ 5 }
 {
     let item = Some(Item::Function(function));
-    if module.body_of(function).is_some() {
+    if has_own_body(module, function) {
         let verdict = module.check_function(function, &mut BodyBuffers::new(alloc));
         out.note(&verdict, item, text);
     } else {
@@ -351,35 +355,10 @@ fn check_one(
     }
 }
 
-/// The same of a module that is held: one without bodies has none for it.
-fn check_one_held(
-    alloc: Global,
-    held: &HeldModule,
-    function: u32,
-    text: &mut [u8],
-    out: &mut ModuleVerdict,
-)
-    requires consistent { IsConsistent (length text.old) out.old }
-    requires first { out.old.status ≡ 0 }
-    ensures consistent { IsConsistent (length text.new) out.new }
-    ensures safe { out.new.status ≡ 0 → OnWhole held.now (λ m. IsSafeFunction m function) }
-    ensures refused { (out.new.status ≡ 1) ⊎ (out.new.status ≡ 2)
-        → OnWhole held.now (λ m. ¬ IsAcceptedFunction m function) }
-    ensures uncovered { out.new.status ≡ 4 → OnWhole held.now (λ m. IsUncoveredFunction m function) }
-    ensures reported { out.new.status ≢ 0 → Reports (Some (Function function)) out.new }
-    ensures missing { out.new.status ≡ 5 ↔ HasNoBody held.now function }
-    ensures known { out.new.status ≤ 5 }
-{
-    match held {
-        HeldModule::Whole(loaded) => check_one(alloc, loaded, function, text, out),
-        HeldModule::Declared(_) => report_no_body(Some(Item::Function(function)), text, out),
-    }
-}
-
-/// The same of what a handle keeps: there may be no module.
+/// The same of what was taken out of a handle: there may be no bodies, or no module.
 fn check_one_kept(
     alloc: Global,
-    kept: &Kept,
+    kept: &Option<Box<Kept>>,
     function: u32,
     text: &mut [u8],
     out: &mut ModuleVerdict,
@@ -387,68 +366,35 @@ fn check_one_kept(
     requires consistent { IsConsistent (length text.old) out.old }
     requires first { out.old.status ≡ 0 }
     ensures consistent { IsConsistent (length text.new) out.new }
-    ensures safe { out.new.status ≡ 0 → OnModule (Some kept.now) (λ m. IsSafeFunction m function) }
-    ensures refused { (out.new.status ≡ 1) ⊎ (out.new.status ≡ 2)
-        → OnModule (Some kept.now) (λ m. ¬ IsAcceptedFunction m function) }
-    ensures uncovered { out.new.status ≡ 4 → OnModule (Some kept.now) (λ m. IsUncoveredFunction m function) }
-    ensures reported { out.new.status ≢ 0 → out.new.status ≢ 6 → Reports (Some (Function function)) out.new }
-    ensures missing { out.new.status ≡ 5 ↔ OnHeld (Some kept.now) (λ h. HasNoBody h function) }
-    ensures none { out.new.status ≡ 6 ↔ HasNoModule (Some kept.now) }
-    ensures known { out.new.status ≤ 6 }
+    ensures answer { BodyAnswer (held_in kept.now) function out.new.status out.new }
 {
-    match kept {
-        Kept::Module(shared) => check_one_held(alloc, &shared.held, function, text, out),
-        Kept::Function(_) => report_no_module(text, out),
+    match found_in(kept) {
+        Found::Bodies(loaded) => check_one(alloc, loaded, function, text, out),
+        Found::NoBodies => report_no_body(Some(Item::Function(function)), text, out),
+        Found::NoModule => report_no_module(text, out),
     }
 }
 
-/// Checks each body and each constant expression of a module that is held: one without bodies can't be checked.
-fn check_all_held(alloc: Global, held: &HeldModule, text: &mut [u8], out: &mut ModuleVerdict)
+/// Checks each body and each constant expression of what was taken out of a handle.
+fn check_all_kept(alloc: Global, kept: &Option<Box<Kept>>, text: &mut [u8], out: &mut ModuleVerdict)
     requires consistent { IsConsistent (length text.old) out.old }
     requires first { out.old.status ≡ 0 }
     ensures consistent { IsConsistent (length text.new) out.new }
-    ensures valid { out.new.status ≡ 0 → OnWhole held.now IsValid }
-    ensures refused { (out.new.status ≡ 1) ⊎ (out.new.status ≡ 2)
-        → OnWhole held.now (λ m. ¬ IsAcceptedModule m) }
-    ensures uncovered { out.new.status ≡ 4 → OnWhole held.now HasUncovered }
-    ensures counted { out.new.status ≢ 3 → total out.old ≡ 0 → OfWhole held.now (λ m.
-        total out.new ≡ item_count m) }
-    ensures missing { out.new.status ≡ 5 ↔ IsDeclared held.now }
-    ensures known { out.new.status ≤ 5 }
+    ensures answer { total out.old ≡ 0 → ModuleAnswer (held_in kept.now) out.new.status out.new }
 {
-    match held {
-        HeldModule::Whole(loaded) => {
+    match found_in(kept) {
+        Found::Bodies(loaded) => {
             check_module(loaded, &mut BodyBuffers::new(alloc), text, out);
         }
-        HeldModule::Declared(_) => report_no_body(None, text, out),
-    }
-}
-
-/// The same of what a handle keeps.
-fn check_all_kept(alloc: Global, kept: &Kept, text: &mut [u8], out: &mut ModuleVerdict)
-    requires consistent { IsConsistent (length text.old) out.old }
-    requires first { out.old.status ≡ 0 }
-    ensures consistent { IsConsistent (length text.new) out.new }
-    ensures valid { out.new.status ≡ 0 → OnModule (Some kept.now) IsValid }
-    ensures refused { (out.new.status ≡ 1) ⊎ (out.new.status ≡ 2)
-        → OnModule (Some kept.now) (λ m. ¬ IsAcceptedModule m) }
-    ensures uncovered { out.new.status ≡ 4 → OnModule (Some kept.now) HasUncovered }
-    ensures counted { out.new.status ≢ 3 → total out.old ≡ 0 → OfModule (Some kept.now) (λ m.
-        total out.new ≡ item_count m) }
-    ensures missing { out.new.status ≡ 5 ↔ OnHeld (Some kept.now) IsDeclared }
-    ensures none { out.new.status ≡ 6 ↔ HasNoModule (Some kept.now) }
-    ensures known { out.new.status ≤ 6 }
-{
-    match kept {
-        Kept::Module(shared) => check_all_held(alloc, &shared.held, text, out),
-        Kept::Function(_) => report_no_module(text, out),
+        Found::NoBodies => report_no_body(None, text, out),
+        Found::NoModule => report_no_module(text, out),
     }
 }
 
 /// Checks them one after another from a position on, up to one that isn't accepted, behind which the position is then.
-fn check_from_held(
+fn check_from_kept(
     alloc: Global,
-    held: &HeldModule,
+    kept: &Option<Box<Kept>>,
     position: &mut usize,
     text: &mut [u8],
     out: &mut ModuleVerdict,
@@ -456,50 +402,20 @@ fn check_from_held(
     requires consistent { IsConsistent (length text.old) out.old }
     requires first { out.old.status ≡ 0 }
     ensures consistent { IsConsistent (length text.new) out.new }
-    ensures rest { out.new.status ≡ 0 → OnWhole held.now (λ m. AreSafeFrom m position.old) }
-    ensures reported { out.new.status ≢ 0 → OfWhole held.now (λ m.
-        IsReported m position.old position.new out.new) }
-    ensures unmoved { (out.new.status ≡ 0) ⊎ (out.new.status ≡ 5) → position.new ≡ position.old }
-    ensures missing { out.new.status ≡ 5 ↔ IsDeclared held.now }
-    ensures known { out.new.status ≤ 5 }
+    ensures answer { NextAnswer (held_in kept.now) position.old position.new out.new.status out.new }
 {
-    match held {
-        HeldModule::Whole(loaded) => {
+    match found_in(kept) {
+        Found::Bodies(loaded) => {
             let buffers = &mut BodyBuffers::new(alloc);
             check_from(loaded, position, buffers, text, out);
         }
-        HeldModule::Declared(_) => report_no_body(None, text, out),
-    }
-}
-
-/// The same of what a handle keeps.
-fn check_from_kept(
-    alloc: Global,
-    kept: &Kept,
-    position: &mut usize,
-    text: &mut [u8],
-    out: &mut ModuleVerdict,
-)
-    requires consistent { IsConsistent (length text.old) out.old }
-    requires first { out.old.status ≡ 0 }
-    ensures consistent { IsConsistent (length text.new) out.new }
-    ensures rest { out.new.status ≡ 0 → OnModule (Some kept.now) (λ m. AreSafeFrom m position.old) }
-    ensures reported { out.new.status ≢ 0 → OfModule (Some kept.now) (λ m.
-        IsReported m position.old position.new out.new) }
-    ensures unmoved { (out.new.status ≡ 0) ⊎ ((out.new.status ≡ 5) ⊎ (out.new.status ≡ 6))
-        → position.new ≡ position.old }
-    ensures missing { out.new.status ≡ 5 ↔ OnHeld (Some kept.now) IsDeclared }
-    ensures none { out.new.status ≡ 6 ↔ HasNoModule (Some kept.now) }
-    ensures known { out.new.status ≤ 6 }
-{
-    match kept {
-        Kept::Module(shared) => check_from_held(alloc, &shared.held, position, text, out),
-        Kept::Function(_) => report_no_module(text, out),
+        Found::NoBodies => report_no_body(None, text, out),
+        Found::NoModule => report_no_module(text, out),
     }
 }
 
 /// Checks the body of the function at this index. Where the status is 0, it is type safe; where it is 1 or 2, it isn't
-/// accepted; where it is 5, the module has none for it.
+/// accepted, and it is refused (1) or malformed (2) at its first fault; where it is 5, the module has none for it.
 pub fn validate_function(
     alloc: Global,
     handle: &mut Handle,
@@ -512,6 +428,8 @@ pub fn validate_function(
     ensures safe { result ≡ 0 → OnModule handle.old.held (λ m. IsSafeFunction m function) }
     ensures refused { (result ≡ 1) ⊎ (result ≡ 2)
         → OnModule handle.old.held (λ m. ¬ IsAcceptedFunction m function) }
+    ensures invalid { result ≡ 1 → OnModule handle.old.held (λ m. IsRefusedFunction m function) }
+    ensures malformed { result ≡ 2 → OnModule handle.old.held (λ m. IsMalformedFunction m function) }
     ensures uncovered { result ≡ 4 → OnModule handle.old.held (λ m. IsUncoveredFunction m function) }
     ensures reported { result ≢ 0 → result ≢ 6 → Reports (Some (Function function)) out.new }
     ensures missing { result ≡ 5 ↔ OnHeld handle.old.held (λ h. HasNoBody h function) }
@@ -520,18 +438,15 @@ pub fn validate_function(
     ensures kept { handle.new.held ≡ handle.old.held }
 {
     *out = ModuleVerdict::new();
-    let Some(kept) = handle.take(alloc) else {
-        report_no_module(text, out);
-        return status_of(out);
-    };
+    let kept = handle.take(alloc);
     check_one_kept(alloc, &kept, function, text, out);
     handle.put_back(alloc, kept);
     status_of(out)
 }
 
 /// Checks each body and each constant expression. Where the status is 0, the module is valid; where it is 1
-/// or 2, one of them isn't accepted; where it is 4, one of them has a vector operator behind accepted ones. Where it is
-/// at most 4, but not 3, each of them is counted.
+/// or 2, one of them isn't accepted, and one is refused (1) or malformed (2) at its first fault; where it is 4, one of
+/// them has a vector operator behind accepted ones. Where it is at most 4, but not 3, each of them is counted.
 pub fn validate_module(
     alloc: Global,
     handle: &mut Handle,
@@ -543,6 +458,8 @@ pub fn validate_module(
     ensures valid { result ≡ 0 → OnModule handle.old.held IsValid }
     ensures refused { (result ≡ 1) ⊎ (result ≡ 2)
         → OnModule handle.old.held (λ m. ¬ IsAcceptedModule m) }
+    ensures invalid { result ≡ 1 → OnModule handle.old.held HasInvalid }
+    ensures malformed { result ≡ 2 → OnModule handle.old.held HasMalformed }
     ensures uncovered { result ≡ 4 → OnModule handle.old.held HasUncovered }
     ensures counted { result ≢ 3 → OfModule handle.old.held (λ m. total out.new ≡ item_count m) }
     ensures missing { result ≡ 5 ↔ OnHeld handle.old.held IsDeclared }
@@ -551,10 +468,7 @@ pub fn validate_module(
     ensures kept { handle.new.held ≡ handle.old.held }
 {
     *out = ModuleVerdict::new();
-    let Some(kept) = handle.take(alloc) else {
-        report_no_module(text, out);
-        return status_of(out);
-    };
+    let kept = handle.take(alloc);
     check_all_kept(alloc, &kept, text, out);
     handle.put_back(alloc, kept);
     status_of(out)
@@ -582,10 +496,7 @@ pub fn validate_next(
     ensures kept { handle.new.held ≡ handle.old.held }
 {
     *out = ModuleVerdict::new();
-    let Some(kept) = handle.take(alloc) else {
-        report_no_module(text, out);
-        return status_of(out);
-    };
+    let kept = handle.take(alloc);
     check_from_kept(alloc, &kept, position, text, out);
     handle.put_back(alloc, kept);
     status_of(out)

@@ -5,15 +5,17 @@ ghost use Rattle.module_check.specs.Verdicts.{IsConsistent, IsCovered, status_of
 ghost use Rattle.module_check.specs.declared.verdict.Verdict.TheVariants.{Accepted};
 ghost use Rattle.c_api.specs.Calls.{OnHeld, HasNoModule};
 ghost use Rattle.c_api.specs.FunctionCalls.{OnFunction, OfFunction, OfBoth, Becomes, HasNoFunction};
-ghost use Rattle.c_api.specs.FunctionCalls.{OpAnswer, HandleAnswer};
+ghost use Rattle.c_api.specs.FunctionCalls.{OpAnswer, HandleAnswer, FinishAnswer};
 ghost use Rattle.c_api.specs.Functions.{IsBegun, IsExpressionBegun, Takes, CannotTake};
 ghost use Rattle.c_api.specs.Functions.{DefinesShown, IsWhole, IsUncoveredOperator};
+ghost use Rattle.c_api.specs.Handle.{held_in};
 ghost use Rattle.c_api.specs.Modules.{module_of};
 ghost use Rattle.c_api.specs.declared.kept.Kept.TheVariants.{Function as AFunction};
 ghost use Rattle.validate_func.specs.Functions.{Fails};
 ghost use Rattle.validate_visit.specs.declared.body.BodyKind.TheVariants.{Function};
 
 use crate::calls::{another, keep, report_no_module, status_of};
+use crate::found::{function_in, module_in};
 use crate::function::FunctionInProgress;
 use crate::handle::Handle;
 use crate::kept::Kept;
@@ -26,23 +28,27 @@ use std::alloc::Global;
 use validate_visit::BodyKind;
 
 /// Another share of the module that is kept, if there was memory for it. The verdict reports where there is none.
-fn share_of_kept(kept: &Kept, text: &mut [u8], out: &mut ModuleVerdict) -> Option<SharedModule>
+fn share_of_kept(
+    kept: &Option<Box<Kept>>,
+    text: &mut [u8],
+    out: &mut ModuleVerdict,
+) -> Option<SharedModule>
     requires consistent { IsConsistent (length text.old) out.old }
     requires first { out.old.status ≡ 0 }
     ensures consistent { IsConsistent (length text.new) out.new }
-    ensures some { IfSome result (λ s. OnHeld (Some kept.now) (λ h. module_of s ≡ h) × (out.new.status ≡ 0)) }
+    ensures some { IfSome result (λ s. OnHeld (held_in kept.now) (λ h. module_of s ≡ h) × (out.new.status ≡ 0)) }
     ensures none { result ≡ None → (out.new.status ≡ 3) ⊎ (out.new.status ≡ 6) }
-    ensures missing { out.new.status ≡ 6 ↔ HasNoModule (Some kept.now) }
+    ensures missing { out.new.status ≡ 6 ↔ HasNoModule (held_in kept.now) }
 {
-    match kept {
-        Kept::Module(shared) => {
+    match module_in(kept) {
+        Some(shared) => {
             let second = another(shared);
             if second.is_none() {
                 out.report(OUT_OF_MEMORY, None, 0, "out of memory", text);
             }
             second
         }
-        Kept::Function(_) => {
+        None => {
             report_no_module(text, out);
             None
         }
@@ -63,10 +69,7 @@ pub(crate) fn share_of(
     ensures kept { handle.new.held ≡ handle.old.held }
 {
     *out = ModuleVerdict::new();
-    let Some(kept) = handle.take(alloc) else {
-        report_no_module(text, out);
-        return None;
-    };
+    let kept = handle.take(alloc);
     let second = share_of_kept(&kept, text, out);
     handle.put_back(alloc, kept);
     second
@@ -313,7 +316,7 @@ fn op_of_handle(
     op_of_kept(
         alloc, &mut kept, bytes, offset, on_refusal, taken, text, out,
     );
-    handle.put_back(alloc, kept);
+    handle.fill(alloc, kept);
     status_of(out)
 }
 
@@ -471,7 +474,7 @@ pub fn define_locals(
         return status_of(out);
     };
     define_kept(&mut kept, count, shown, offset, text, out);
-    handle.put_back(alloc, kept);
+    handle.fill(alloc, kept);
     status_of(out)
 }
 
@@ -488,21 +491,16 @@ fn finished(function: &FunctionInProgress, offset: u64) -> Result<(), Verdict>
     }
 }
 
-/// The same of what a handle keeps, with what it comes to.
-fn finish_kept(kept: &Kept, offset: u64, text: &mut [u8], out: &mut ModuleVerdict)
+/// The same of what was taken out of a handle, with what it comes to.
+fn finish_kept(kept: &Option<Box<Kept>>, offset: u64, text: &mut [u8], out: &mut ModuleVerdict)
     requires consistent { IsConsistent (length text.old) out.old }
     requires first { out.old.status ≡ 0 }
     ensures consistent { IsConsistent (length text.new) out.new }
-    ensures whole { out.new.status ≡ 0 → OnFunction (Some kept.now) IsWhole }
-    ensures open { out.new.status ≢ 0 → OfFunction (Some kept.now) (λ f.
-        ¬ ((f.failed ≡ false) × (f.present.frames ≡ []))) }
-    ensures covered { out.new.status ≢ 4 }
-    ensures none { out.new.status ≡ 6 ↔ HasNoFunction (Some kept.now) }
-    ensures known { (out.new.status ≤ 4) ⊎ (out.new.status ≡ 6) }
+    ensures answer { FinishAnswer (held_in kept.now) out.new.status }
 {
-    match kept {
-        Kept::Function(function) => note_done(finished(function, offset), text, out),
-        Kept::Module(_) => report_no_function(text, out),
+    match function_in(kept) {
+        Some(function) => note_done(finished(function, offset), text, out),
+        None => report_no_function(text, out),
     }
 }
 
@@ -525,10 +523,7 @@ pub fn finish(
     ensures kept { handle.new.held ≡ handle.old.held }
 {
     *out = ModuleVerdict::new();
-    let Some(kept) = handle.take(alloc) else {
-        report_no_function(text, out);
-        return status_of(out);
-    };
+    let kept = handle.take(alloc);
     finish_kept(&kept, offset, text, out);
     handle.put_back(alloc, kept);
     status_of(out)

@@ -1,7 +1,7 @@
 //! What a caller in C keeps.
 
 ghost use Rattle.std.specs.Prelude.{◌≡◌, MatchOption, Option, None, Some};
-ghost use Rattle.c_api.specs.Handle.{MaybeKept, maybe_kept_coded, handle_owns};
+ghost use Rattle.c_api.specs.Handle.{MaybeKept, maybe_kept_coded, handle_owns, held_in};
 
 use crate::kept::Kept;
 use crate::loose::Loose;
@@ -69,7 +69,7 @@ impl Handle {
 
     /// Takes out what it has; it has nothing then.
     pub fn take(&mut self, alloc: Global) -> Option<Box<Kept>>
-        ensures taken { MatchOption result (self.old.held ≡ None) (λ b. self.old.held ≡ Some b.value) }
+        ensures taken { self.old.held ≡ held_in result }
         ensures left { self.new.held ≡ None }
     {
         mem::replace(self, Handle::none()).into_box(alloc)
@@ -85,7 +85,18 @@ impl Handle {
 
     /// Puts back what a call took.
     #[inline(always)]
-    pub fn put_back(&mut self, alloc: Global, kept: Box<Kept>)
+    pub fn put_back(&mut self, alloc: Global, kept: Option<Box<Kept>>)
+        requires { self.old.held ≡ None }
+        ensures { self.new.held ≡ held_in kept }
+    {
+        if let Some(kept) = kept {
+            self.fill(alloc, kept);
+        }
+    }
+
+    /// Puts something into a handle that has nothing.
+    #[inline(always)]
+    pub fn fill(&mut self, alloc: Global, kept: Box<Kept>)
         requires { self.old.held ≡ None }
         ensures { self.new.held ≡ Some kept.value }
     {

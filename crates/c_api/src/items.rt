@@ -1,10 +1,8 @@
 //! The bodies and constant expressions of a module, one after another.
 
 ghost use Rattle.std.specs.Prelude.{◌≡◌, ◌≢◌, ◌≤◌, length};
-ghost use Rattle.module_check.specs.Items.{IsSafeAt, IsRefusedAt};
-ghost use Rattle.module_check.specs.UncoveredModule.{IsUncoveredAt};
-ghost use Rattle.module_check.specs.Verdicts.{IsConsistent, SaysNo};
-ghost use Rattle.c_api.specs.Items.{IsReportedAt, IsReported, AreSafeFrom};
+ghost use Rattle.module_check.specs.Verdicts.{IsConsistent};
+ghost use Rattle.c_api.specs.Items.{AreSafeFrom, IsReported, IsReportedAt, ItemAnswer};
 
 use module_check::{BodyBuffers, LoadedModule, ModuleVerdict, VALID, check_item, item_count};
 
@@ -19,10 +17,8 @@ fn check_at(
     requires consistent { IsConsistent (length text.old) out.old }
     requires first { out.old.status ≡ 0 }
     ensures consistent { IsConsistent (length text.new) out.new }
-    ensures accepted { out.new.status ≡ 0 → IsSafeAt module.now place }
     ensures reported { out.new.status ≢ 0 → IsReportedAt module.now place out.new }
-    ensures refused { SaysNo out.new.status → IsRefusedAt module.now place }
-    ensures uncovered { out.new.status ≡ 4 → IsUncoveredAt module.now place }
+    ensures answer { ItemAnswer module.now place out.new.status }
     ensures known { out.new.status ≤ 4 }
 {
     let checked = check_item(module, place, buffers);

@@ -6,6 +6,7 @@
 mod accepted;
 mod body_calls;
 mod calls;
+mod found;
 mod function;
 mod function_calls;
 mod handle;

@@ -2,23 +2,25 @@
 
 ghost use Rattle.std.specs.Prelude.{◌≡◌, ◌≢◌, length, slice_get, option_map, None, Some, IfSome};
 ghost use Rattle.c_api.specs.FunctionCalls.{OnFunction, OfFunction};
+ghost use Rattle.c_api.specs.Handle.{held_in};
 ghost use Rattle.c_api.specs.Shown.{shown_type, shown_operand, shown_frame};
 ghost use Rattle.validate_func.specs.Functions.{body_state};
 ghost use Rattle.validate_stacks.specs.Steps.{type_at_depth, frame_at};
 ghost use Rattle.validation_rules.specs.Static.{operand_count, frame_count};
 
+use crate::found::function_in;
 use crate::handle::Handle;
 use crate::kept::Kept;
 use crate::shown::{ShownFrame, ShownType};
 use std::alloc::Global;
 
 /// How many operands there are, in all frames, or 0 where there is no function.
-fn operands_of(kept: &Kept) -> u64
-    ensures { OfFunction (Some kept.now) (λ f. result ≡ operand_count f.present) }
+fn operands_of(kept: &Option<Box<Kept>>) -> u64
+    ensures { OfFunction (held_in kept.now) (λ f. result ≡ operand_count f.present) }
 {
-    match kept {
-        Kept::Function(function) => function.operand_stack_height() as u64,
-        Kept::Module(_) => 0,
+    match function_in(kept) {
+        Some(function) => function.operand_stack_height() as u64,
+        None => 0,
     }
 }
 
@@ -27,21 +29,19 @@ pub fn operands(alloc: Global, handle: &mut Handle) -> u64
     ensures shown { OfFunction handle.old.held (λ f. result ≡ operand_count f.present) }
     ensures kept { handle.new.held ≡ handle.old.held }
 {
-    let Some(kept) = handle.take(alloc) else {
-        return 0;
-    };
+    let kept = handle.take(alloc);
     let count = operands_of(&kept);
     handle.put_back(alloc, kept);
     count
 }
 
 /// How many frames are open, or 0 where there is no function.
-fn frames_of(kept: &Kept) -> u64
-    ensures { OfFunction (Some kept.now) (λ f. result ≡ frame_count f.present) }
+fn frames_of(kept: &Option<Box<Kept>>) -> u64
+    ensures { OfFunction (held_in kept.now) (λ f. result ≡ frame_count f.present) }
 {
-    match kept {
-        Kept::Function(function) => function.control_stack_height() as u64,
-        Kept::Module(_) => 0,
+    match function_in(kept) {
+        Some(function) => function.control_stack_height() as u64,
+        None => 0,
     }
 }
 
@@ -50,21 +50,19 @@ pub fn frames(alloc: Global, handle: &mut Handle) -> u64
     ensures shown { OfFunction handle.old.held (λ f. result ≡ frame_count f.present) }
     ensures kept { handle.new.held ≡ handle.old.held }
 {
-    let Some(kept) = handle.take(alloc) else {
-        return 0;
-    };
+    let kept = handle.take(alloc);
     let count = frames_of(&kept);
     handle.put_back(alloc, kept);
     count
 }
 
 /// How many locals there are, with the parameters, or 0 where there is no function.
-fn locals_of(kept: &Kept) -> u32
-    ensures { OfFunction (Some kept.now) (λ f. result ≡ length f.starting.locals) }
+fn locals_of(kept: &Option<Box<Kept>>) -> u32
+    ensures { OfFunction (held_in kept.now) (λ f. result ≡ length f.starting.locals) }
 {
-    match kept {
-        Kept::Function(function) => function.len_locals(),
-        Kept::Module(_) => 0,
+    match function_in(kept) {
+        Some(function) => function.len_locals(),
+        None => 0,
     }
 }
 
@@ -73,9 +71,7 @@ pub fn locals(alloc: Global, handle: &mut Handle) -> u32
     ensures shown { OfFunction handle.old.held (λ f. result ≡ length f.starting.locals) }
     ensures kept { handle.new.held ≡ handle.old.held }
 {
-    let Some(kept) = handle.take(alloc) else {
-        return 0;
-    };
+    let kept = handle.take(alloc);
     let count = locals_of(&kept);
     handle.put_back(alloc, kept);
     count
@@ -96,14 +92,14 @@ fn show<T: Drop>(found: Option<T>, place: &mut T) -> u32
 }
 
 /// The type of the operand at this depth, the top at 0.
-fn operand_of(kept: &Kept, depth: u64) -> Option<ShownType>
-    ensures found { IfSome result (λ s. OnFunction (Some kept.now) (λ f.
+fn operand_of(kept: &Option<Box<Kept>>, depth: u64) -> Option<ShownType>
+    ensures found { IfSome result (λ s. OnFunction (held_in kept.now) (λ f.
         option_map shown_operand (type_at_depth (body_state f) depth) ≡ Some s)) }
-    ensures missing { result ≡ None → OfFunction (Some kept.now) (λ f. type_at_depth (body_state f) depth ≡ None) }
+    ensures missing { result ≡ None → OfFunction (held_in kept.now) (λ f. type_at_depth (body_state f) depth ≡ None) }
 {
-    match kept {
-        Kept::Function(function) => function.shown_operand(depth as usize),
-        Kept::Module(_) => None,
+    match function_in(kept) {
+        Some(function) => function.shown_operand(depth as usize),
+        None => None,
     }
 }
 
@@ -115,23 +111,21 @@ pub fn operand(alloc: Global, handle: &mut Handle, depth: u64, shown: &mut Shown
     ensures unchanged { result ≡ 0 → shown.new ≡ shown.old }
     ensures kept { handle.new.held ≡ handle.old.held }
 {
-    let Some(kept) = handle.take(alloc) else {
-        return 0;
-    };
+    let kept = handle.take(alloc);
     let found = operand_of(&kept, depth);
     handle.put_back(alloc, kept);
     show(found, shown)
 }
 
 /// The frame at this depth, the innermost at 0.
-fn frame_of(kept: &Kept, depth: u64) -> Option<ShownFrame>
-    ensures found { IfSome result (λ s. OnFunction (Some kept.now) (λ f.
+fn frame_of(kept: &Option<Box<Kept>>, depth: u64) -> Option<ShownFrame>
+    ensures found { IfSome result (λ s. OnFunction (held_in kept.now) (λ f.
         option_map shown_frame (frame_at (body_state f) depth) ≡ Some s)) }
-    ensures missing { result ≡ None → OfFunction (Some kept.now) (λ f. frame_at (body_state f) depth ≡ None) }
+    ensures missing { result ≡ None → OfFunction (held_in kept.now) (λ f. frame_at (body_state f) depth ≡ None) }
 {
-    match kept {
-        Kept::Function(function) => function.shown_frame(depth as usize),
-        Kept::Module(_) => None,
+    match function_in(kept) {
+        Some(function) => function.shown_frame(depth as usize),
+        None => None,
     }
 }
 
@@ -143,23 +137,21 @@ pub fn frame(alloc: Global, handle: &mut Handle, depth: u64, shown: &mut ShownFr
     ensures unchanged { result ≡ 0 → shown.new ≡ shown.old }
     ensures kept { handle.new.held ≡ handle.old.held }
 {
-    let Some(kept) = handle.take(alloc) else {
-        return 0;
-    };
+    let kept = handle.take(alloc);
     let found = frame_of(&kept, depth);
     handle.put_back(alloc, kept);
     show(found, shown)
 }
 
 /// The type of the local at this index.
-fn local_of(kept: &Kept, index: u32) -> Option<ShownType>
-    ensures found { IfSome result (λ s. OnFunction (Some kept.now) (λ f.
+fn local_of(kept: &Option<Box<Kept>>, index: u32) -> Option<ShownType>
+    ensures found { IfSome result (λ s. OnFunction (held_in kept.now) (λ f.
         option_map shown_type (slice_get f.starting.locals index) ≡ Some s)) }
-    ensures missing { result ≡ None → OfFunction (Some kept.now) (λ f. slice_get f.starting.locals index ≡ None) }
+    ensures missing { result ≡ None → OfFunction (held_in kept.now) (λ f. slice_get f.starting.locals index ≡ None) }
 {
-    match kept {
-        Kept::Function(function) => function.shown_local(index),
-        Kept::Module(_) => None,
+    match function_in(kept) {
+        Some(function) => function.shown_local(index),
+        None => None,
     }
 }
 
@@ -171,9 +163,7 @@ pub fn local(alloc: Global, handle: &mut Handle, index: u32, shown: &mut ShownTy
     ensures unchanged { result ≡ 0 → shown.new ≡ shown.old }
     ensures kept { handle.new.held ≡ handle.old.held }
 {
-    let Some(kept) = handle.take(alloc) else {
-        return 0;
-    };
+    let kept = handle.take(alloc);
     let found = local_of(&kept, index);
     handle.put_back(alloc, kept);
     show(found, shown)

@@ -4,9 +4,8 @@ use Rattle.std.proofs.lemmas.Bool.{cases_lt}
 use Rattle.std.proofs.lemmas.Option.{get_or_from_slice_get, slice_get_within}
 use mathlib.Core.Logic.{inl, inr}
 use Rattle.binary_modules.specs.declared.initializers.ConstantExpression.{ConstantExpression}
-use Rattle.module_check.specs.Items.{IsRefusedAt, IsSafeAt, AreSafeBelow, expression_count, function_at, item_count}
-use Rattle.module_check.specs.Loaded.{declarations, IsAcceptedExpression, IsAcceptedFunction, IsSafeExpression, IsSafeFunction, IsSafeModule, IsValid}
-use Rattle.module_check.specs.UncoveredModule.{IsUncoveredAt, IsUncoveredExpression, IsUncoveredFunction}
+use Rattle.module_check.specs.Items.{IsSafeAt, StandsAt, AreSafeBelow, expression_count, function_at, item_count}
+use Rattle.module_check.specs.Loaded.{declarations, IsSafeExpression, IsSafeFunction, IsSafeModule, IsValid}
 use Rattle.module_check.specs.declared.loaded.LoadedModule.{LoadedModule}
 use Rattle.module_check.proofs.Counted.{few_functions}
 
@@ -15,45 +14,27 @@ module _ (m : LoadedModule) where
   pub one_more : (end : ℕ) → AreSafeBelow m end → IsSafeAt m end → AreSafeBelow m (end + 1)
   one_more end before this place within = elim (cases_lt place end) [ inl below ↦ before place below | inr past ↦ subst (IsSafeAt m) (omega (arith, past, within)) this ]
 
-  -- what stands at a place among the constant expressions is safe where that expression is
-  pub expression_safe : (place : ℕ) (e : ConstantExpression) → place < expression_count m → e ≡ get_or m.expressions.items place e → IsSafeExpression m e → IsSafeAt m place
-  expression_safe place e inside is_there safe = record {
-    expression = λ f is. subst (IsSafeExpression m) (is_there ∙ get_or_from_slice_get m.expressions.items place f e is) safe;
-    body = λ past within fits. absurd (omega (arith, past, inside));
-  }
-
-  -- what stands behind them is safe where the function is whose body stands there
-  pub body_safe : (place behind function : ℕ) → expression_count m ≤ place → behind ≡ place - expression_count m → (m.declared.imports.functions + behind < 2 ^ 32 → function ≡ m.declared.imports.functions + behind) → IsSafeFunction m function → IsSafeAt m place
-  body_safe place behind function past is_behind is_index safe = record {
-    expression = λ e is. absurd (omega (arith, past, slice_get_within m.expressions.items place e is));
-    body = λ _ _ fits. subst (IsSafeFunction m) (is_index (subst (λ n. m.declared.imports.functions + n < 2 ^ 32) (sym is_behind) fits) ∙ ap (λ n. m.declared.imports.functions + n) is_behind) safe;
-  }
-
-  -- the same of what isn't accepted
-  pub expression_refused : (place : ℕ) (e : ConstantExpression) → place < expression_count m → e ≡ get_or m.expressions.items place e → (¬ IsAcceptedExpression m e) → IsRefusedAt m place
-  expression_refused place e inside is_there refused = record {
-    expression = λ f is. subst (λ g. ¬ IsAcceptedExpression m g) (is_there ∙ get_or_from_slice_get m.expressions.items place f e is) refused;
+  -- what stands at a place among the constant expressions is as that expression is
+  pub expression_stands : (of_expression : ConstantExpression → Type 0) (of_function : ℕ → Type 0) (place : ℕ) (e : ConstantExpression)
+      → place < expression_count m → e ≡ get_or m.expressions.items place e → of_expression e → StandsAt m of_expression of_function place
+  expression_stands of_expression of_function place e inside is_there this = record {
+    expression = λ f is. subst of_expression (is_there ∙ get_or_from_slice_get m.expressions.items place f e is) this;
     body = λ past fits. absurd (omega (arith, past, inside));
   }
 
-  pub body_refused : (place behind function : ℕ) → expression_count m ≤ place → behind ≡ place - expression_count m → (m.declared.imports.functions + behind < 2 ^ 32 → function ≡ m.declared.imports.functions + behind) → (¬ IsAcceptedFunction m function) → IsRefusedAt m place
-  body_refused place behind function past is_behind is_index refused = record {
+  -- what stands behind them is as the function is whose body stands there
+  pub body_stands : (of_expression : ConstantExpression → Type 0) (of_function : ℕ → Type 0) (place behind function : ℕ)
+      → expression_count m ≤ place → behind ≡ place - expression_count m
+      → (m.declared.imports.functions + behind < 2 ^ 32 → function ≡ m.declared.imports.functions + behind)
+      → of_function function → StandsAt m of_expression of_function place
+  body_stands of_expression of_function place behind function past is_behind is_index this = record {
     expression = λ e is. absurd (omega (arith, past, slice_get_within m.expressions.items place e is));
-    body = λ _ fits. subst (λ f. ¬ IsAcceptedFunction m f) (is_index (subst (λ n. m.declared.imports.functions + n < 2 ^ 32) (sym is_behind) fits) ∙ ap (λ n. m.declared.imports.functions + n) is_behind) refused;
+    body = λ _ fits. subst of_function (is_index (subst (λ n. m.declared.imports.functions + n < 2 ^ 32) (sym is_behind) fits) ∙ ap (λ n. m.declared.imports.functions + n) is_behind) this;
   }
 
-  -- and of what isn't covered
-  pub expression_uncovered : (place : ℕ) (e : ConstantExpression) → place < expression_count m → e ≡ get_or m.expressions.items place e → IsUncoveredExpression m e → IsUncoveredAt m place
-  expression_uncovered place e inside is_there uncovered = record {
-    expression = λ f is. subst (IsUncoveredExpression m) (is_there ∙ get_or_from_slice_get m.expressions.items place f e is) uncovered;
-    body = λ past fits. absurd (omega (arith, past, inside));
-  }
-
-  pub body_uncovered : (place behind function : ℕ) → expression_count m ≤ place → behind ≡ place - expression_count m → (m.declared.imports.functions + behind < 2 ^ 32 → function ≡ m.declared.imports.functions + behind) → IsUncoveredFunction m function → IsUncoveredAt m place
-  body_uncovered place behind function past is_behind is_index uncovered = record {
-    expression = λ e is. absurd (omega (arith, past, slice_get_within m.expressions.items place e is));
-    body = λ _ fits. subst (IsUncoveredFunction m) (is_index (subst (λ n. m.declared.imports.functions + n < 2 ^ 32) (sym is_behind) fits) ∙ ap (λ n. m.declared.imports.functions + n) is_behind) uncovered;
-  }
+  -- it is safe where it is as what is safe
+  pub safe_there : (place : ℕ) → StandsAt m (IsSafeExpression m) (IsSafeFunction m) place → IsSafeAt m place
+  safe_there place this = record { expression = this.expression; body = λ past _ fits. this.body past fits }
 
   -- where all that stands in the row is safe, each function that isn't imported is, and each constant expression
   all_safe : (end : ℕ) → item_count m ≤ end → AreSafeBelow m end → IsSafeModule m

@@ -1,5 +1,5 @@
 -- What a loaded module's bodies and constant expressions have, where they aren't accepted (the crate's own).
-use Rattle.std.specs.Prelude.{◌⊎◌, ℕ, None}
+use Rattle.std.specs.Prelude.{◌⊎◌, ◌<◌, ℕ, None}
 use Rattle.binary_modules.specs.declared.initializers.ConstantExpression.{ConstantExpression}
 use Rattle.binary_operators.specs.Unread.{Unread}
 use Rattle.binary_operators.specs.declared.types.CanonicalTypes.{CanonicalTypes}
@@ -10,6 +10,7 @@ use Rattle.validate_types.specs.declared.types.ValType.{ValType}
 use Rattle.validate_visit.specs.declared.body.BodyKind.TheVariants.{Function, Expression}
 use Rattle.module_check.specs.Constant.{may_stand}
 use Rattle.module_check.specs.Faults.{IsMalformedCode, IsRefusedCode}
+use Rattle.module_check.specs.Items.{StandsAt, item_count}
 use Rattle.module_check.specs.Loaded.{declarations, declared, features_of, HasBody, HasPlace}
 use Rattle.module_check.specs.declared.loaded.LoadedModule.{LoadedModule}
 
@@ -58,3 +59,17 @@ abbrev pub IsRefusedExpression : LoadedModule → ConstantExpression → Type 0
 IsRefusedExpression m e =
     ((value_type : ValType) (types : CanonicalTypes) → ¬ HasPlace m e value_type types)
     ⊎ HasRefusedExpression m e
+
+-- What stands at this place of the row, if something does, is malformed, or it is refused.
+abbrev pub IsMalformedAt : LoadedModule → ℕ → Type 0
+IsMalformedAt m = StandsAt m (IsMalformedExpression m) (IsMalformedFunction m)
+
+abbrev pub IsInvalidAt : LoadedModule → ℕ → Type 0
+IsInvalidAt m = StandsAt m (IsRefusedExpression m) (IsRefusedFunction m)
+
+-- something in the row is malformed, or is refused
+abbrev pub HasMalformed : LoadedModule → Type 0
+HasMalformed m = (place : ℕ) × (place < item_count m) × IsMalformedAt m place
+
+abbrev pub HasInvalid : LoadedModule → Type 0
+HasInvalid m = (place : ℕ) × (place < item_count m) × IsInvalidAt m place

@@ -34,12 +34,17 @@ pub record IsSafeAt (m : LoadedModule) (place : ℕ) : Type 0 where
   pub body : expression_count m ≤ place → place < item_count m → function_at m place < 2 ^ 32
       → IsSafeFunction m (function_at m place)
 
--- What stands at this place of the row, if something does, isn't accepted.
-pub record IsRefusedAt (m : LoadedModule) (place : ℕ) : Type 0 where
-  pub expression : (e : ConstantExpression) → slice_get m.expressions.items place ≡ Some e
-      → ¬ IsAcceptedExpression m e
-  pub body : expression_count m ≤ place → function_at m place < 2 ^ 32
-      → ¬ IsAcceptedFunction m (function_at m place)
+-- What stands at this place of the row, if something does, is such a constant expression, or the body of such a
+-- function, whose index has 32 bits.
+pub record StandsAt
+    (m : LoadedModule) (of_expression : ConstantExpression → Type 0) (of_function : ℕ → Type 0) (place : ℕ)
+    : Type 0 where
+  pub expression : (e : ConstantExpression) → slice_get m.expressions.items place ≡ Some e → of_expression e
+  pub body : expression_count m ≤ place → function_at m place < 2 ^ 32 → of_function (function_at m place)
+
+-- it isn't accepted
+abbrev pub IsRefusedAt : LoadedModule → ℕ → Type 0
+IsRefusedAt m = StandsAt m (λ e. ¬ IsAcceptedExpression m e) (λ function. ¬ IsAcceptedFunction m function)
 
 -- each of the first so many is safe
 abbrev pub AreSafeBelow : LoadedModule → ℕ → Type 0

@@ -1,5 +1,5 @@
 -- What isn't covered of a module, and of bytes (the crate's own).
-use Rattle.std.specs.Prelude.{◌≡◌, ◌⊎◌, ℕ, ◌^◌, ◌≤◌, ◌<◌, true, List, Some, None, drop, slice_get}
+use Rattle.std.specs.Prelude.{◌≡◌, ◌⊎◌, ℕ, ◌<◌, true, List, None, drop}
 use Rattle.binary_modules.specs.declared.initializers.ConstantExpression.{ConstantExpression}
 use Rattle.binary_operators.specs.Unread.{Unread}
 use Rattle.binary_operators.specs.Vectors.{BeginVector}
@@ -11,7 +11,7 @@ use Rattle.validate_types.specs.Features.{has, simd}
 use Rattle.validate_types.specs.declared.types.ValType.{ValType}
 use Rattle.validate_visit.specs.declared.body.BodyKind.TheVariants.{Function, Expression}
 use Rattle.module_check.specs.Constant.{may_stand}
-use Rattle.module_check.specs.Items.{expression_count, function_at, item_count}
+use Rattle.module_check.specs.Items.{StandsAt, item_count}
 use Rattle.module_check.specs.Loaded.{bytes_of, declarations, declared, features_of, HasBody, HasPlace}
 use Rattle.module_check.specs.Uncovered.{HasVector}
 use Rattle.module_check.specs.declared.loaded.LoadedModule.{LoadedModule}
@@ -34,11 +34,8 @@ pub record IsUncoveredExpression (m : LoadedModule) (e : ConstantExpression) : T
       (Expression value_type) (is_constant_in (features_of m) (declarations m) e.place) e.bytes.left
 
 -- What stands at this place of the row, if something does, isn't covered.
-pub record IsUncoveredAt (m : LoadedModule) (place : ℕ) : Type 0 where
-  pub expression : (e : ConstantExpression) → slice_get m.expressions.items place ≡ Some e
-      → IsUncoveredExpression m e
-  pub body : expression_count m ≤ place → function_at m place < 2 ^ 32
-      → IsUncoveredFunction m (function_at m place)
+abbrev pub IsUncoveredAt : LoadedModule → ℕ → Type 0
+IsUncoveredAt m = StandsAt m (IsUncoveredExpression m) (IsUncoveredFunction m)
 
 -- something in the row isn't covered
 abbrev pub HasUncovered : LoadedModule → Type 0

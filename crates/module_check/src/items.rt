@@ -1,10 +1,12 @@
 //! What a module has to check, in one row: first its constant expressions, then the bodies of its functions.
 
 ghost use Rattle.std.specs.Prelude.{◌≡◌, ◌≢◌, ◌<◌, ℕ};
+ghost use Rattle.module_check.specs.FaultyModule.{IsInvalidAt, IsMalformedAt};
 ghost use Rattle.module_check.specs.Items.{IsItemAt, IsRefusedAt, IsSafeAt, item_count};
 ghost use Rattle.module_check.specs.Loaded.{IsAcceptedModule};
 ghost use Rattle.module_check.specs.UncoveredModule.{IsUncoveredAt};
-ghost use Rattle.module_check.specs.declared.verdict.Verdict.TheVariants.{Accepted, NotCovered, OutOfMemory};
+ghost use Rattle.module_check.specs.declared.verdict.Verdict.TheVariants.{Accepted, Refused, Malformed, NotCovered, OutOfMemory};
+ghost use Rattle.validate_types.specs.declared.error.Error.{Error};
 
 use crate::buffers::BodyBuffers;
 use crate::loaded::LoadedModule;
@@ -38,6 +40,8 @@ pub fn check_item(module: &LoadedModule<'_>, place: usize, buffers: &mut BodyBuf
     ensures unaccepted { place < item_count module.now → result.verdict ≢ Accepted → result.verdict ≢ OutOfMemory
         → ¬ IsAcceptedModule module.now }
     ensures uncovered { (offset : ℕ) → result.verdict ≡ NotCovered offset → IsUncoveredAt module.now place }
+    ensures malformed { (e : Error) → result.verdict ≡ Malformed e → IsMalformedAt module.now place }
+    ensures invalid { (e : Error) → result.verdict ≡ Refused e → IsInvalidAt module.now place }
 {
     let expressions = module.expressions();
     match expressions.get(place) {

@@ -1,7 +1,8 @@
 //! What the check of a module comes to.
 
 ghost use Rattle.std.specs.Prelude.{◌≡◌, ◌≢◌, ◌⊎◌, ◌<◌, ◌≤◌, ◌+◌, ◌-◌, ◌^◌, ℕ, length, take};
-ghost use Rattle.module_check.specs.declared.verdict.Verdict.TheVariants.{Accepted, NotCovered, OutOfMemory};
+ghost use Rattle.module_check.specs.declared.verdict.Verdict.TheVariants.{Accepted, Refused, Malformed, NotCovered, OutOfMemory};
+ghost use Rattle.validate_types.specs.declared.error.Error.{Error};
 ghost use Rattle.module_check.specs.Verdicts.{IsConsistent, SaysNo, status_of, item_kind, item_index, Reports, counted_with, total};
 
 use crate::outcome::{Outcome, VALID};
@@ -143,6 +144,10 @@ impl ModuleVerdict {
             × (total self.old < 2 ^ 64 - 1 → total self.new ≡ total self.old + 1) }
         ensures uncovered { self.new.status ≡ 4 → (self.old.status ≡ 4)
             ⊎ ((offset : ℕ) × (verdict.now ≡ NotCovered offset)) }
+        ensures malformed { self.new.status ≡ 2 → (self.old.status ≡ 2)
+            ⊎ ((e : Error) × (verdict.now ≡ Malformed e)) }
+        ensures invalid { self.new.status ≡ 1 → (self.old.status ≡ 1)
+            ⊎ ((e : Error) × (verdict.now ≡ Refused e)) }
     {
         self.count(verdict);
         let outcome = Outcome::of(verdict);

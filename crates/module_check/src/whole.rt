@@ -1,6 +1,7 @@
 //! The check of a module.
 
 ghost use Rattle.std.specs.Prelude.{◌≡◌, ◌≢◌, ◌⊎◌, ◌≤◌, length};
+ghost use Rattle.module_check.specs.FaultyModule.{HasInvalid, HasMalformed, IsMalformedFunction, IsRefusedFunction};
 ghost use Rattle.module_check.specs.Items.{item_count};
 ghost use Rattle.module_check.specs.Loaded.{IsAcceptedFunction, IsAcceptedModule};
 ghost use Rattle.module_check.specs.Loaded.{IsSafeFunction, IsValid};
@@ -30,6 +31,9 @@ pub fn check_function(
     ensures counted { out.new.status ≢ 3 → total out.old ≡ 0 → total out.new ≡ 1 }
     ensures uncovered { out.new.status ≡ 4 → (out.old.status ≡ 4)
         ⊎ IsUncoveredFunction module.now function }
+    ensures malformed { out.new.status ≡ 2 → (out.old.status ≡ 2)
+        ⊎ IsMalformedFunction module.now function }
+    ensures invalid { out.new.status ≡ 1 → (out.old.status ≡ 1) ⊎ IsRefusedFunction module.now function }
 {
     let verdict = module.check_function(function, buffers);
     out.note(&verdict, Some(Item::Function(function)), text);
@@ -42,8 +46,9 @@ pub fn check_function(
 /// expressions are constant.
 ///
 /// If it is neither 0 nor that of out of memory, it was neither before, or one of them isn't accepted. If it is that of not
-/// covered, it was before, or one of them has a vector operator behind accepted ones. Unless it is that of out of memory,
-/// each of them is counted.
+/// covered, it was before, or one of them has a vector operator behind accepted ones. If it is that of malformed or of
+/// invalid, it was before, or of one of them that is so at its first fault. Unless it is that of out of memory, each of
+/// them is counted.
 pub fn check_module(
     module: &LoadedModule<'_>,
     buffers: &mut BodyBuffers,
@@ -57,6 +62,8 @@ pub fn check_module(
     ensures known { out.old.status ≤ 4 → out.new.status ≤ 4 }
     ensures counted { out.new.status ≢ 3 → total out.old ≡ 0 → total out.new ≡ item_count module.now }
     ensures uncovered { out.new.status ≡ 4 → (out.old.status ≡ 4) ⊎ HasUncovered module.now }
+    ensures malformed { out.new.status ≡ 2 → (out.old.status ≡ 2) ⊎ HasMalformed module.now }
+    ensures invalid { out.new.status ≡ 1 → (out.old.status ≡ 1) ⊎ HasInvalid module.now }
 {
     for place in 0..item_count(module) {
         let checked = check_item(module, place, buffers);

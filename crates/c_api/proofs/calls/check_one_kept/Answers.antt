@@ -1,18 +1,18 @@
--- What is checked is the module that is kept.
-use Rattle.std.proofs.Common.{subst}
-use Rattle.module_check.specs.Loaded.{IsSafeFunction, IsAcceptedFunction}
-use Rattle.module_check.specs.UncoveredModule.{IsUncoveredFunction}
-use Rattle.c_api.specs.Calls.{OnWhole}
+-- What is found says what a status means.
+use Rattle.c_api.specs.Handle.{held_in}
+use Rattle.c_api.proofs.Checked.{body_checked, body_missing, no_module_of_body}
 use Rattle.c_api.proofs.calls.check_one_kept.Goals as goal
 
-pub returns-in-Module-clause-safe : goal.returns-in-Module-clause-safe
-returns-in-Module-clause-safe c = rw c.in-Module.is (λ z.
-    subst (λ h. OnWhole h (λ m. IsSafeFunction m c.args.function)) c.deref.ensures (c.check_one_held.ensures.safe z))
+pub returns-in-Bodies-clause-answer : goal.returns-in-Bodies-clause-answer
+returns-in-Bodies-clause-answer c =
+    let x = c.check_one.ensures in
+    body_checked (held_in c.args.kept.now) c.check_one.new.out.status c.check_one.new.out c.in-Bodies.loaded.now c.in-Bodies.ensures c.args.function x.safe x.refused x.invalid x.malformed x.uncovered x.reported x.missing x.known
 
-pub returns-in-Module-clause-refused : goal.returns-in-Module-clause-refused
-returns-in-Module-clause-refused c = rw c.in-Module.is (λ z.
-    subst (λ h. OnWhole h (λ m. ¬ IsAcceptedFunction m c.args.function)) c.deref.ensures (c.check_one_held.ensures.refused z))
+pub returns-in-NoBodies-clause-answer : goal.returns-in-NoBodies-clause-answer
+returns-in-NoBodies-clause-answer c =
+    let x = c.report_no_body.ensures in
+    body_missing (held_in c.args.kept.now) c.report_no_body.new.out.status c.report_no_body.new.out c.in-NoBodies.ensures x.status c.args.function x.reported
 
-pub returns-in-Module-clause-uncovered : goal.returns-in-Module-clause-uncovered
-returns-in-Module-clause-uncovered c = rw c.in-Module.is (λ four.
-    subst (λ h. OnWhole h (λ m. IsUncoveredFunction m c.args.function)) c.deref.ensures (c.check_one_held.ensures.uncovered four))
+pub returns-in-NoModule-clause-answer : goal.returns-in-NoModule-clause-answer
+returns-in-NoModule-clause-answer c =
+    no_module_of_body (held_in c.args.kept.now) c.report_no_module.new.out.status c.report_no_module.new.out c.in-NoModule.ensures c.report_no_module.ensures.status c.args.function

@@ -1,5 +1,6 @@
 -- Where the status is 0, the module was read, and is valid; where it is 4, something isn't covered.
-use Rattle.std.proofs.Common.{◌≡◌, sym, ◌∙◌, inl, inr, arith}
+use Rattle.std.proofs.Common.{sym, ◌∙◌, inl, inr}
+use Rattle.c_api.proofs.Answered.{not_before}
 use Rattle.c_api.proofs.Bytes.{read_valid, read_uncovered}
 use Rattle.c_api.proofs.calls.validate.Goals as goal
 
@@ -11,6 +12,6 @@ returns-clause-valid c = λ z.
 pub returns-clause-uncovered : goal.returns-clause-uncovered
 returns-clause-uncovered c = λ four.
     elim (c.check_read.ensures.uncovered (sym c.status_of.ensures ∙ four)) [
-      | inl before ↦ let clash : 0 ≡ 4 = sym c.new.ensures.accepted ∙ before in absurd (omega (arith, clash))
+      | inl before ↦ absurd (not_before c.new.result.status c.new.ensures.accepted before)
       | inr this ↦ read_uncovered c.args.bytes.now c.args.features c.read.result c.read.ensures.loaded c.read.ensures.uncovered this
     ]

@@ -1,12 +1,23 @@
 -- What is checked is what the handle keeps.
-use Rattle.std.proofs.Common.{◌≡◌, ◌∙◌, Some, sym, subst}
-use Rattle.module_check.specs.Items.{item_count}
-use Rattle.module_check.specs.Verdicts.{total}
-use Rattle.c_api.specs.Calls.{OfModule}
+use Rattle.std.proofs.Common.{◌∙◌, sym, subst}
+use Rattle.c_api.specs.Answers.{ModuleAnswer}
 use Rattle.c_api.proofs.calls.validate_module.Goals as goal
 
-pub returns-clause-counted : goal.returns-clause-counted
-returns-clause-counted c = λ enough.
-    subst (λ o. OfModule o (λ m. total c.check_all_kept.new.out ≡ item_count m)) (sym c.in-Some.ensures.taken)
-    (subst (λ k. OfModule (Some k) (λ m. total c.check_all_kept.new.out ≡ item_count m)) c.deref.ensures
-    (c.check_all_kept.ensures.counted (λ y. enough (c.status_of-2.ensures ∙ y)) c.new.ensures.counted))
+pub returns : goal.returns
+returns c =
+    let kept = subst (λ o. ModuleAnswer o c.check_all_kept.new.out.status c.check_all_kept.new.out) (sym c.take-kept.ensures.taken) (c.check_all_kept.ensures.answer c.new.ensures.counted) in
+    let x = subst (λ s. ModuleAnswer c.args.handle.now.held s c.check_all_kept.new.out) (sym c.status_of.ensures) kept in
+    record {
+      status = c.status_of.ensures;
+      consistent = c.check_all_kept.ensures.consistent;
+      valid = x.valid;
+      refused = x.refused;
+      invalid = x.invalid;
+      malformed = x.malformed;
+      uncovered = x.uncovered;
+      counted = x.counted;
+      missing = x.missing;
+      none = x.none;
+      known = x.known;
+      kept = c.put_back.ensures ∙ sym c.take-kept.ensures.taken;
+    }

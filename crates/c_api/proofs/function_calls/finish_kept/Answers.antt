@@ -1,14 +1,13 @@
 -- The status is that of the answer.
-use Rattle.std.proofs.Common.{◌≡◌, false, []}
-use Rattle.c_api.specs.Functions.{IsWhole}
-use Rattle.c_api.proofs.Answered.{done, undone}
+use Rattle.c_api.specs.Handle.{held_in}
+use Rattle.c_api.proofs.Held.{finish_told, no_finish}
 use Rattle.c_api.proofs.function_calls.finish_kept.Goals as goal
 
-pub returns-in-Function-clause-whole : goal.returns-in-Function-clause-whole
-returns-in-Function-clause-whole c = rw c.in-Function.is (λ z.
-    done c.finished.result c.note_done.new.out.status (IsWhole c.in-Function.function) c.note_done.ensures.told c.finished.ensures.whole c.finished.ensures.refused z)
+pub returns-in-Some-clause-answer : goal.returns-in-Some-clause-answer
+returns-in-Some-clause-answer c =
+    let x = c.finished.ensures in
+    finish_told (held_in c.args.kept.now) c.in-Some.function.now c.in-Some.ensures c.finished.result c.note_done.new.out.status c.note_done.ensures.told x.whole x.«open» x.refused
+    (c.note_done.ensures.covered x.covered) c.note_done.ensures.known
 
-pub returns-in-Function-clause-open : goal.returns-in-Function-clause-open
-returns-in-Function-clause-open c = rw c.in-Function.is (λ z.
-    let f = c.in-Function.function in
-    undone c.finished.result c.note_done.new.out.status (¬ ((f.failed ≡ false) × (f.present.frames ≡ []))) c.note_done.ensures.told c.finished.ensures.open z)
+pub returns-in-None-clause-answer : goal.returns-in-None-clause-answer
+returns-in-None-clause-answer c = no_finish (held_in c.args.kept.now) c.in-None.ensures c.report_no_function.new.out.status c.report_no_function.ensures.status

@@ -10,6 +10,6 @@ returns-in_default-clause-answer c =
 
 pub returns-clause-answer : goal.returns-clause-answer
 returns-clause-answer c =
-    carried c.args.on_refusal c.args.bytes.now c.args.offset c.op_of_kept.new.taken c.op_of_kept.new.out.status c.status_of-2.result c.args.handle.now.held c.put_back.new.self.held
-    c.deref_mut.result.now c.in-Some.kept.value c.op_of_kept.new.kept c.in-Some.ensures.taken c.put_back.ensures c.deref_mut.ensures.value c.status_of-2.ensures
+    carried c.args.on_refusal c.args.bytes.now c.args.offset c.op_of_kept.new.taken c.op_of_kept.new.out.status c.status_of-2.result c.args.handle.now.held c.fill.new.self.held
+    c.deref_mut.result.now c.in-Some.kept.value c.op_of_kept.new.kept c.in-Some.ensures.taken c.fill.ensures c.deref_mut.ensures.value c.status_of-2.ensures
     c.op_of_kept.ensures.answer c.op_of_kept.ensures.none

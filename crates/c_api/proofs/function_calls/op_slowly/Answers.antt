@@ -1,9 +1,9 @@
 -- The status is that of the answer.
-use Rattle.std.proofs.Common.{subst}
-use Rattle.c_api.proofs.Answered.{Tells, op_answer}
+use Rattle.c_api.proofs.Answered.{op_answered}
 use Rattle.c_api.proofs.function_calls.op_slowly.Goals as goal
 
 pub returns-clause-answer : goal.returns-clause-answer
 returns-clause-answer c =
-    op_answer c.args.on_refusal c.args.bytes.now c.args.offset _ _ c.args.function.now c.op-answer.new.self c.op-answer.result (subst (Tells c.op-answer.result c.note_taken.new.out.status c.note_taken.new.taken) c.requires.none_taken c.note_taken.ensures.told)
-    c.op-answer.ensures.accepted c.op-answer.ensures.refused c.op-answer.ensures.cannot c.op-answer.ensures.failed c.op-answer.ensures.uncovered c.op-answer.ensures.unchanged c.op-answer.ensures.back
+    let x = c.op-answer.ensures in
+    op_answered c.args.on_refusal c.args.bytes.now c.args.offset c.note_taken.new.taken c.note_taken.new.out.status c.args.taken.now c.args.function.now c.op-answer.new.self c.requires.none_taken c.op-answer.result c.note_taken.ensures.told
+    x.accepted x.refused x.cannot x.failed x.uncovered x.unchanged x.back

@@ -10,7 +10,7 @@ loop-place-preserved c =
       consistent = c.check_at.ensures.consistent;
       accepted = accepted;
       unmoved = c.loop-place.invariant.unmoved;
-      so_far = one_more c.args.module.now c.args.position.now c.loop-place.place c.loop-place.invariant.so_far (c.check_at.ensures.accepted accepted);
+      so_far = one_more c.args.module.now c.args.position.now c.loop-place.place c.loop-place.invariant.so_far (c.check_at.ensures.answer.safe accepted);
     }
 
 pub returns-clause-rest : goal.returns-clause-rest
@@ -21,4 +21,4 @@ returns-then-out-ne-VALID-clause-reported c = λ other.
     let from : c.args.position.now ≤ c.loop-place.place = search rules in
     let inside : c.loop-place.place < item_count c.args.module.now = omega (arith, c.loop-place-test.true, c.item_count-place-end.ensures) in
     reported_before c.args.module.now c.args.position.now c.loop-place.place _ c.check_at.new.out from inside refl c.loop-place.invariant.so_far
-    (c.check_at.ensures.reported other) (λ memory. c.check_at.ensures.refused (other, memory)) c.check_at.ensures.uncovered
+    (c.check_at.ensures.reported other) c.check_at.ensures.answer

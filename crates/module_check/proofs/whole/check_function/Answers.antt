@@ -9,3 +9,11 @@ returns-clause-refused c = λ no.
 pub returns-clause-uncovered : goal.returns-clause-uncovered
 returns-clause-uncovered c = λ four.
     elim (c.note.ensures.uncovered four) [ inl before ↦ inl before | inr this ↦ inr (c.check_function-verdict.ensures.uncovered this.0 this.1) ]
+
+pub returns-clause-malformed : goal.returns-clause-malformed
+returns-clause-malformed c = λ two.
+    elim (c.note.ensures.malformed two) [ inl before ↦ inl before | inr this ↦ inr (c.check_function-verdict.ensures.malformed this.0 this.1) ]
+
+pub returns-clause-invalid : goal.returns-clause-invalid
+returns-clause-invalid c = λ one.
+    elim (c.note.ensures.invalid one) [ inl before ↦ inl before | inr this ↦ inr (c.check_function-verdict.ensures.invalid this.0 this.1) ]

@@ -25,6 +25,20 @@ loop-place-preserved c = record {
             let within : c.loop-place.place < item_count c.args.module.now = omega (arith, c.loop-place-test.true, c.item_count-place-end.ensures) in
             (c.loop-place.place, within, c.check_item-checked.ensures.uncovered this.0 this.1))
       ];
+  malformed = λ two.
+      elim (c.note.ensures.malformed two) [
+        | inl before ↦ c.loop-place.invariant.malformed before
+        | inr this ↦ inr (
+            let within : c.loop-place.place < item_count c.args.module.now = omega (arith, c.loop-place-test.true, c.item_count-place-end.ensures) in
+            (c.loop-place.place, within, c.check_item-checked.ensures.malformed this.0 this.1))
+      ];
+  invalid = λ one.
+      elim (c.note.ensures.invalid one) [
+        | inl before ↦ c.loop-place.invariant.invalid before
+        | inr this ↦ inr (
+            let within : c.loop-place.place < item_count c.args.module.now = omega (arith, c.loop-place-test.true, c.item_count-place-end.ensures) in
+            (c.loop-place.place, within, c.check_item-checked.ensures.invalid this.0 this.1))
+      ];
   counted = λ enough none.
       let noted = c.note.ensures.counted enough in
       let so_far = c.loop-place.invariant.counted noted.0 none in

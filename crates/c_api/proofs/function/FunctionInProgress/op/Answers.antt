@@ -8,6 +8,7 @@ use Rattle.c_api.specs.Functions.{InProgress, module_under, Takes}
 use Rattle.c_api.specs.Modules.{context_in, features_in}
 use Rattle.c_api.specs.Operators.{HasNoRow}
 use Rattle.c_api.specs.VisitsMade.{IsVisited}
+use Rattle.c_api.proofs.Answered.{not_both}
 use Rattle.c_api.proofs.Untaken.{sound_refused}
 use Rattle.c_api.proofs.Taken.{sound, takes, some_taken}
 use Rattle.c_api.proofs.function.FunctionInProgress.op.Goals as goal
@@ -20,7 +21,7 @@ invariant_of-self-in-Ok c =
     let valid = subst (λ h. IsValidBody (context_in h) (state w.validator)) c.deref.ensures c.visit.ensures.valid in
     record {
       sound = sound f.module f.first_frame f.visits w c.args.bytes.now c.args.offset c.in-Ok.taken f.failed f.failed x c.visit.ensures.kept c.if-self.false c.self.invariant.sound (c.self.invariant.sound.run c.if-self.false) valid;
-      none_before = λ (e : true ≡ false). absurd cc;
+      none_before = λ (e : true ≡ false). absurd (not_both e);
       some_before = λ _. some_taken f.module f.first_frame f.visits w c.args.bytes.now c.args.offset c.in-Ok.taken f.failed f.failed x c.visit.ensures.kept c.if-self.false;
     }
 
@@ -67,5 +68,5 @@ returns-in-Err-Unread-clause-uncovered c = λ at uncovered.
       is_on = subst (λ (g : InProgress). has (features_in (module_under g)) simd ≡ true) c.self.view_is
           (subst (λ fs. has fs simd ≡ true) (c.features.ensures ∙ ap features_in c.deref-in-Err-Unread.ensures) is_on);
       none_failed = sym (ap (λ (g : InProgress). g.failed) c.self.view_is) ∙ c.if-self.false;
-      is_open = λ none. let clash : true ≡ false = sym c.if-not-is_open.false ∙ c.has_open_frame-is_open.ensures.1 none in absurd cc;
+      is_open = λ none. not_both (sym c.if-not-is_open.false ∙ c.has_open_frame-is_open.ensures.1 none);
     }

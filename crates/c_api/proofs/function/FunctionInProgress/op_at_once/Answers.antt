@@ -5,6 +5,7 @@ use Rattle.validate_operators.specs.Start.{state}
 use Rattle.validate_func.specs.Functions.{function_state}
 use Rattle.c_api.specs.Functions.{InProgress, Takes}
 use Rattle.c_api.specs.VisitsMade.{IsVisited}
+use Rattle.c_api.proofs.Answered.{not_both}
 use Rattle.c_api.proofs.Taken.{sound, takes, some_taken}
 use Rattle.c_api.proofs.function.FunctionInProgress.op_at_once.Goals as goal
 
@@ -16,7 +17,7 @@ invariant_of-self c =
     let kept = visit_kept _ _ _ _ _ _ x.meets in
     record {
       sound = sound f.module f.first_frame f.visits w c.args.bytes.now c.args.offset c.in-Some.taken f.failed f.failed x kept c.if-self.false c.self.invariant.sound (c.self.invariant.sound.run c.if-self.false) (visit_valid _ _ _ _ _ _ x.meets);
-      none_before = λ (e : true ≡ false). absurd cc;
+      none_before = λ (e : true ≡ false). absurd (not_both e);
       some_before = λ _. some_taken f.module f.first_frame f.visits w c.args.bytes.now c.args.offset c.in-Some.taken f.failed f.failed x kept c.if-self.false;
     }
 

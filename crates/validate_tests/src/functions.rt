@@ -14,8 +14,7 @@ use wasmparser_validate::operators::OperatorValidator;
 use wasmparser_validate::resources::{ModuleLists, WasmModuleResources};
 use wasmparser_validate::types::{Error, ValType};
 use wasmparser_validate::visit::{
-    ControlOp, FrameKind, IntegerBinaryOp, IntegerType, NumericOp, Op, all_have_module_immediates,
-    is_well_ordered,
+    ControlOp, FrameKind, IntegerBinaryOp, IntegerType, NumericOp, Op, is_well_ordered,
 };
 
 const DROP: Op<'static> = Op::Control(ControlOp::Drop);
@@ -193,7 +192,6 @@ fn expect_before<R: WasmModuleResources>(
     requires { IsStarting (R.context lists.now) (state v.old) }
 {
     expect(rt, is_well_ordered(SUM) && place <= SUM.len());
-    expect(rt, all_have_module_immediates(SUM));
     match operands_before(rt.alloc(), v, SUM, lists, place) {
         Ok(types) => expect(rt, types.as_slice() == expected),
         Err((_, refusal)) => ample(rt, Err(refusal)),

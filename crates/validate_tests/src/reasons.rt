@@ -117,7 +117,11 @@ fn expect_row<R: WasmModuleResources>(
     let (first, second, reason, text) = *row;
     visit_well(rt, v, lists, first);
     let refusal = refused(rt, visit(v, lists, second), text);
-    expect_same(rt, refusal.reason(), reason);
+    expect_same(
+        rt,
+        refusal.reason().map(Refusal::wording),
+        reason.map(Refusal::wording),
+    );
 }
 
 /// Each row in a new body.

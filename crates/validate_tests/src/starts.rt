@@ -2,8 +2,6 @@
 //! list.
 
 ghost use Rattle.std.specs.Prelude.{◌≡◌, true};
-ghost use Rattle.validate_operators.specs.Runs.{without_offsets};
-ghost use Rattle.validate_visit.specs.Order.{is_well_ordered_list};
 ghost use Rattle.validate_stacks.specs.State.{IsStarting};
 ghost use Rattle.wasmparser_validate.specs.Start.{state};
 
@@ -21,8 +19,8 @@ use wasmparser_validate::operators::{
 use wasmparser_validate::resources::{ModuleLists, WasmModuleResources};
 use wasmparser_validate::types::{Flags, ValType, WasmFeatures};
 use wasmparser_validate::visit::{
-    BlockType, BodyKind, ControlOp, FrameKind, NumericOp, Op, all_have_module_immediates,
-    has_module_immediates, is_well_ordered,
+    BlockType, BodyKind, ControlOp, FrameKind, NumericOp, Op, has_module_immediates,
+    is_well_ordered,
 };
 
 const OVER: &str = "too many locals: locals exceed maximum";
@@ -116,14 +114,6 @@ fn constant(
     ample(rt, begun)
 }
 
-/// The operators are in order, and all their immediates are those of a module.
-fn expect_module_ops(rt: &impl Abort, ops: &[(Op<'_>, u64)])
-    ensures { is_well_ordered_list (without_offsets ops.now) ≡ true }
-{
-    expect(rt, is_well_ordered(ops));
-    expect(rt, all_have_module_immediates(ops));
-}
-
 /// The constant is accepted up to its end, and leaves one operand and no frame.
 fn expect_seven<R: WasmModuleResources>(
     rt: &(impl Abort + AllocGlobal),
@@ -133,7 +123,7 @@ fn expect_seven<R: WasmModuleResources>(
     requires { IsStarting (R.context lists.now) (state v.old) }
 {
     let mut heights = Vec::new(rt.alloc());
-    expect_module_ops(rt, SEVEN);
+    expect(rt, is_well_ordered(SEVEN));
     match check_ops(v, SEVEN, lists, &mut heights) {
         Ok(is_closed) => expect(rt, is_closed),
         Err((_, refusal)) => ample(rt, Err(refusal)),

@@ -186,7 +186,7 @@ fn refusals_with_their_texts(rt: HostRuntime) {
     expect(&rt, refusal.offset() == 5 && !refusal.is_out_of_memory());
     let moved = refusal.at(6).because(Refusal::UnknownLabel);
     expect_same(&rt, moved.offset(), 6);
-    expect_same(&rt, moved.reason(), Some(Refusal::UnknownLabel));
+    expect(&rt, matches!(moved.reason(), Some(Refusal::UnknownLabel)));
     let unmade = Error::from_text(Err(AllocError), 7);
     expect(&rt, unmade.is_out_of_memory());
     expect(&rt, Error::out_of_memory(7).is_out_of_memory());

@@ -5,6 +5,7 @@ use Rattle.std.specs.Cmp.{IsEquivalence, booleans_Decides}
 use Rattle.std.specs.Cmp.Lexicographic.{pointwise, pointwise_decides, slice_cmp, lists_ties}
 use Rattle.std.specs.Option.{option_eq}
 use Rattle.std.specs.Ordering.{is_eq}
+use borrow.Author.Tests.{clash}
 use denote.Enum.Bare.{same_true}
 use Rattle.std.proofs.lemmas.Bool.{and_parts}
 use Rattle.std.proofs.lemmas.Bool.Decides.{Decides-eqb}
@@ -52,8 +53,8 @@ decided {A} {E} laws exact a b = (exact a b, λ e. sym (ap (λ x. E a x) e) ∙ 
 index_exact : (a b : UnpackedIndex) → (index_eq.ghosts).eq a b ≡ true → a ≡ b
 index_exact (Module m) (Module n) e = ap Module ((Decides-eqb m n).0 e)
 index_exact (Id m) (Id n) e = ap (λ i. Id (record { index = i })) ((Decides-eqb m.index n.index).0 e)
-index_exact (Module m) (Id n) e = cc
-index_exact (Id m) (Module n) e = cc
+index_exact (Module m) (Id n) e = absurd (clash e)
+index_exact (Id m) (Module n) e = absurd (clash e)
 
 heap_exact : (a b : HeapType) → (heap_eq.ghosts).eq a b ≡ true → a ≡ b
 heap_exact (Abstract s a) (Abstract t b) e =
@@ -63,7 +64,7 @@ heap_exact (Abstract s a) (Abstract t b) e =
     λ i. Abstract (m i) (h i)
 heap_exact (Concrete i) (Concrete j) e = ap Concrete (index_exact i j e)
 heap_exact (Exact i) (Exact j) e = ap Exact (index_exact i j e)
-heap_exact _ _ e = cc
+heap_exact _ _ e = absurd (clash e)
 
 ref_exact : (a b : RefType) → (ref_eq.ghosts).eq a b ≡ true → a ≡ b
 ref_exact a b e =
@@ -79,13 +80,13 @@ value_exact F32 F32 e = refl
 value_exact F64 F64 e = refl
 value_exact V128 V128 e = refl
 value_exact (Ref a) (Ref b) e = ap Ref (ref_exact a b e)
-value_exact _ _ e = cc
+value_exact _ _ e = absurd (clash e)
 
 storage_exact : (a b : StorageType) → (storage_eq.ghosts).eq a b ≡ true → a ≡ b
 storage_exact I8 I8 e = refl
 storage_exact I16 I16 e = refl
 storage_exact (Val t) (Val u) e = ap Val (value_exact t u e)
-storage_exact _ _ e = cc
+storage_exact _ _ e = absurd (clash e)
 
 field_exact : (a b : FieldType) → (field_eq.ghosts).eq a b ≡ true → a ≡ b
 field_exact a b e =
@@ -118,12 +119,12 @@ inner_exact (Func f) (Func g) e = ap Func (signature_exact f g e)
 inner_exact (Array a) (Array b) e = ap Array (array_exact a b e)
 inner_exact (Struct fs) (Struct gs) e = ap Struct (fields_exact fs gs e)
 inner_exact (Cont a) (Cont b) e = ap Cont (cont_exact a b e)
-inner_exact _ _ e = cc
+inner_exact _ _ e = absurd (clash e)
 
 option_exact : (a b : Option UnpackedIndex) → option_eq (packed_eq.ghosts).eq a b ≡ true → a ≡ b
 option_exact None None e = refl
 option_exact (Some i) (Some j) e = ap Some (index_exact i j e)
-option_exact _ _ e = cc
+option_exact _ _ e = absurd (clash e)
 
 composite_exact : (a b : CompositeType) → (composite_eq.ghosts).eq a b ≡ true → a ≡ b
 composite_exact a b e =

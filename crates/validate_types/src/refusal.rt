@@ -11,7 +11,7 @@ use crate::types::{MaybeType, StorageType, ValType};
 
 /// Why an operator was refused: a variant for each reason, with what its text needs. It holds neither a place nor a text,
 /// and takes no memory.
-#[derive(Clone, Copy, Debug, PartialEq, Eq)]
+#[derive(Clone, Copy)]
 pub enum Refusal {
     /// A growth was refused: there was no memory for it.
     OutOfMemory,

@@ -4,10 +4,11 @@ use crate::heap::AbstractHeapType;
 use crate::refs::RefType;
 use crate::refusal::{ClauseKind, Packing, Refusal};
 use crate::types::{MaybeType, StorageType, ValType};
+use std::fmt;
 
 /// The text of a refusal as data: what stands in it, in the order in which it is read. A variant that names a type or an
 /// index is written with it.
-#[derive(Clone, Copy)]
+#[derive(Clone, Copy, Debug, PartialEq, Eq)]
 pub enum Wording {
     /// This text, whatever is refused.
     Fixed(&'static str),
@@ -391,6 +392,13 @@ impl Refusal {
             }
             Refusal::OtherResults(index) => Wording::Results(index),
         }
+    }
+}
+
+/// A refusal as data, by its text.
+impl fmt::Debug for Refusal {
+    fn fmt<W: fmt::Write>(&self, f: &mut fmt::Formatter<W>) -> fmt::Result {
+        fmt::Debug::fmt(&self.wording(), f)
     }
 }
 

@@ -26,7 +26,7 @@ pub use crate::catch::{Catch, TryTable};
 pub use crate::frame::{BlockType, Frame, FrameKind};
 pub use crate::frame_stack::FrameStack;
 pub use crate::ieee::{Ieee32, Ieee64};
-pub use crate::immediates::{all_have_module_immediates, has_module_immediates};
+pub use crate::immediates::has_module_immediates;
 pub use crate::memory::{AtomicAccess, AtomicRmwOp, MemArg, MemArgTarget, Ordering};
 pub use crate::module_arity::ModuleArity;
 pub use crate::numbers::{FloatType, IntegerType, NumberType, PackedInteger, Sign};

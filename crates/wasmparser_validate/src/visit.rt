@@ -8,7 +8,7 @@ pub use validate_visit::{
     FrameStack, Handle, Ieee32, Ieee64, IncompleteTable, IntegerBinaryOp, IntegerComparisonOp,
     IntegerType, IntegerUnaryOp, LocalGroup, MemArg, MemArgTarget, MemoryOp, ModuleArity,
     NumberType, NumericOp, Op, OperatorChecks, Ordering, PackedInteger, ReferenceOp, ResumeTable,
-    SharedOp, SharedRmwOp, Sign, StructOp, TableOp, TryTable, Update, all_have_module_immediates,
-    has_module_immediates, is_well_ordered,
+    SharedOp, SharedRmwOp, Sign, StructOp, TableOp, TryTable, Update, has_module_immediates,
+    is_well_ordered,
 };
 pub use validate_visitor::VisitOperator;

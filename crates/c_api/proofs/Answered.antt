@@ -4,7 +4,7 @@ use Rattle.std.specs.Prelude.{◌⊎◌, MatchResult}
 use Rattle.module_check.specs.Verdicts.{status_of, IsCovered}
 use Rattle.module_check.specs.declared.verdict.Verdict.{Verdict}
 use Rattle.module_check.specs.declared.verdict.Verdict.TheVariants.{Accepted, Refused, Malformed, NotCovered, OutOfMemory}
-use Rattle.validate_func.specs.Functions.{Fails}
+use Rattle.wasmparser_validate.specs.Functions.{Fails}
 use Rattle.c_api.specs.FunctionCalls.{OpAnswer}
 use Rattle.c_api.specs.Functions.{InProgress, Takes, CannotTake, IsUncoveredOperator}
 use Rattle.c_api.specs.declared.on_refusal.OnRefusal.{OnRefusal}

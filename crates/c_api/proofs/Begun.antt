@@ -7,7 +7,7 @@ use Rattle.module_check.specs.Begin.{DefinesRead}
 use Rattle.module_check.specs.Loaded.{declared, features_of}
 use Rattle.module_check.specs.declared.loaded.LoadedModule.{LoadedModule}
 use Rattle.module_rules.specs.Features.{operator_features}
-use Rattle.validate_func.specs.Functions.{function_from}
+use Rattle.wasmparser_validate.specs.Functions.{function_from}
 use Rattle.validate_operators.specs.Begin.{IsBodyStart, CannotStart}
 use Rattle.validate_operators.specs.Start.{IsFuncStart}
 use Rattle.validate_resources.specs.Context.{ModuleContext}

@@ -1,7 +1,7 @@
 -- What holds of the functions of two handles, if there is one in the first.
 use Rattle.std.proofs.Common.{◌≡◌, ◌≢◌, ◌≤◌, ℕ, List, None, Some, inl, inr, ap, sym, subst, arith}
 use Rattle.std.specs.Prelude.{◌⊎◌, ◌↔◌}
-use Rattle.validate_func.specs.Functions.{Fails}
+use Rattle.wasmparser_validate.specs.Functions.{Fails}
 use Rattle.c_api.specs.FunctionCalls.{OnFunction, OfBoth, Becomes, HasNoFunction, OpAnswer, HandleAnswer}
 use Rattle.c_api.specs.Functions.{InProgress, Takes, CannotTake, IsUncoveredOperator}
 use Rattle.c_api.specs.Handle.{MaybeKept}

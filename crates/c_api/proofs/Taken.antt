@@ -3,8 +3,8 @@ use Rattle.std.proofs.Common.{◌≡◌, ℕ, Bool, false, List, ◌∷◌, [], 
 use Rattle.validate_operators.proofs.Listed.{visited}
 use Rattle.validate_operators.specs.Runs.{body_before}
 use Rattle.validate_operators.specs.Start.{state}
-use Rattle.validate_func.proofs.Accepted.{sound_accepted, accepts}
-use Rattle.validate_func.specs.Functions.{state_from, function_state, IsSound}
+use Rattle.wasmparser_validate.proofs.Accepted.{sound_accepted, accepts}
+use Rattle.wasmparser_validate.specs.Functions.{state_from, function_state, IsSound}
 use Rattle.validate_stacks.specs.Pops.{IsKept}
 use Rattle.validate_stacks.specs.State.{body_context, IsValidBody}
 use Rattle.validate_visit.specs.declared.frame.Frame.{Frame as FlatFrame}

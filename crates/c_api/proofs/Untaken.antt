@@ -3,7 +3,7 @@ use Rattle.std.proofs.Common.{◌≡◌, ℕ, Bool, true, false, List, [], lengt
 use Rattle.module_check.proofs.Begun.{some_same}
 use Rattle.validate_operators.specs.Runs.{body_before}
 use Rattle.validate_operators.specs.Start.{DefinesLocals}
-use Rattle.validate_func.specs.Functions.{state_from, IsSound}
+use Rattle.wasmparser_validate.specs.Functions.{state_from, IsSound}
 use Rattle.validate_resources.specs.Context.{ModuleContext}
 use Rattle.validate_stacks.specs.Pops.{IsKept}
 use Rattle.validate_stacks.specs.State.{BodyState, IsStarting, IsValidBody}

@@ -1,6 +1,6 @@
 -- What the calls on a function say (the crate's own).
 use Rattle.std.specs.Prelude.{◌≡◌, ◌≢◌, ◌≤◌, ◌⊎◌, ◌↔◌, ℕ, false, List, [], None, Some}
-use Rattle.validate_func.specs.Functions.{Fails}
+use Rattle.wasmparser_validate.specs.Functions.{Fails}
 use Rattle.c_api.specs.Functions.{InProgress, Takes, CannotTake, IsUncoveredOperator, IsWhole}
 use Rattle.c_api.specs.Handle.{MaybeKept}
 use Rattle.c_api.specs.declared.kept.Kept.TheVariants.{Module, Function}

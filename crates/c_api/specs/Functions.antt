@@ -5,7 +5,7 @@ use Rattle.binary_operators.specs.declared.types.CanonicalTypes.{CanonicalTypes}
 use Rattle.validate_operators.specs.Begin.{IsBodyStart}
 use Rattle.validate_operators.specs.Runs.{IsAcceptedBody, IsSafe}
 use Rattle.validate_operators.specs.Start.{DefinesLocals}
-use Rattle.validate_func.specs.Functions.{FunctionState, function_from, body_state, Accepts}
+use Rattle.wasmparser_validate.specs.Functions.{FunctionState, function_from, body_state, Accepts}
 use Rattle.validate_types.specs.Features.{has, simd}
 use Rattle.validate_types.specs.declared.types.ValType.{ValType}
 use Rattle.validate_visit.specs.declared.body.BodyKind.{BodyKind}

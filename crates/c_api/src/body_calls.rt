@@ -11,7 +11,7 @@ ghost use Rattle.c_api.specs.FunctionCalls.{OnFunction};
 ghost use Rattle.c_api.specs.Bodies.{IsBodyBegun, StartsBody, StartsWithLocals};
 ghost use Rattle.c_api.specs.Modules.{context_in, module_of};
 ghost use Rattle.validate_operators.specs.Start.{state};
-ghost use Rattle.validate_func.specs.Functions.{function_from};
+ghost use Rattle.wasmparser_validate.specs.Functions.{function_from};
 ghost use Rattle.validate_resources.specs.Kept.{declared_lists};
 ghost use Rattle.validate_resources.specs.Lists.{context_of};
 ghost use Rattle.validate_stacks.specs.State.{IsStarting};

@@ -11,7 +11,7 @@ ghost use Rattle.c_api.specs.Functions.{DefinesShown, IsWhole, IsUncoveredOperat
 ghost use Rattle.c_api.specs.Handle.{held_in};
 ghost use Rattle.c_api.specs.Modules.{module_of};
 ghost use Rattle.c_api.specs.declared.kept.Kept.TheVariants.{Function as AFunction};
-ghost use Rattle.validate_func.specs.Functions.{Fails};
+ghost use Rattle.wasmparser_validate.specs.Functions.{Fails};
 ghost use Rattle.validate_visit.specs.declared.body.BodyKind.TheVariants.{Function};
 
 use crate::calls::{another, keep, report_no_module, status_of};

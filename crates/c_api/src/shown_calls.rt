@@ -4,7 +4,7 @@ ghost use Rattle.std.specs.Prelude.{◌≡◌, ◌≢◌, length, slice_get, opt
 ghost use Rattle.c_api.specs.FunctionCalls.{OnFunction, OfFunction};
 ghost use Rattle.c_api.specs.Handle.{held_in};
 ghost use Rattle.c_api.specs.Shown.{shown_type, shown_operand, shown_frame};
-ghost use Rattle.validate_func.specs.Functions.{body_state};
+ghost use Rattle.wasmparser_validate.specs.Functions.{body_state};
 ghost use Rattle.validate_stacks.specs.Steps.{type_at_depth, frame_at};
 ghost use Rattle.validation_rules.specs.Static.{operand_count, frame_count};
 

@@ -11,7 +11,7 @@ use Rattle.validation_rules.specs.Operators.{operator, operators}
 use Rattle.validate_operators.specs.Runs.{without_offsets}
 use Rattle.validate_operators.proofs.Listed.{kinds, IsOrderedBelow, some_open, ordered_next}
 use Rattle.opcheck_script.specs.Attempts.{Answer, IsAnswer, AreAnswers, EndsRun, RunEnds, accepted_of, accepted_at}
-use Rattle.script_parts.specs.Written.{is_staying, may_be_attempted, may_all_be_attempted}
+use Rattle.script_reader.specs.Written.{is_staying, may_be_attempted, may_all_be_attempted}
 
 module _ (cx : Context) (shows : Bool) where
   -- the answers with one more

@@ -11,7 +11,7 @@ use Rattle.validation_rules.specs.Context.{Context}
 use Rattle.validation_rules.specs.Static.{State, step, operand_count, frame_count, RowHolds, RowFails}
 use Rattle.validation_rules.specs.Operators.{operator}
 use Rattle.validate_stacks.specs.State.{BodyState, body_context}
-use Rattle.validate_func.specs.Operands.{types_in}
+use Rattle.wasmparser_validate.specs.Operands.{types_in}
 use Rattle.validate_operators.specs.Runs.{body_before}
 use Rattle.opcheck_script.specs.declared.report.After.{After}
 

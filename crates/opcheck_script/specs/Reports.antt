@@ -21,8 +21,8 @@ use Rattle.opcheck_script.specs.declared.failure.Failure.TheVariants.{BadScript,
 use Rattle.opcheck_script.specs.declared.report.Report.{Report}
 use Rattle.opcheck_script.specs.declared.report.Answers.{Answers}
 use Rattle.opcheck_script.specs.declared.report.Answers.TheVariants.{Heights, Each}
-use Rattle.script_parts.specs.declared.script.BodyLine.{BodyLine}
-use Rattle.script_parts.specs.declared.script.Script.{Script}
+use Rattle.script_reader.specs.declared.parts.script.BodyLine.{BodyLine}
+use Rattle.script_reader.specs.declared.parts.script.Script.{Script}
 
 -- What a run of operators as one list answers: whether the outermost frame is closed, where all
 -- rows hold; or the refusal of the first operator whose row doesn't. The heights are those after each

@@ -6,18 +6,18 @@ ghost use Rattle.validate_visit.specs.Order.{is_well_ordered_list};
 ghost use Rattle.validate_stacks.specs.State.{IsStarting, body_context};
 ghost use Rattle.validate_operators.specs.Runs.{without_offsets, IsSafe};
 ghost use Rattle.validate_operators.specs.Start.{state};
-ghost use Rattle.validate_func.specs.Functions.{function_from, Accepts, Refuses};
+ghost use Rattle.wasmparser_validate.specs.Functions.{function_from, Accepts, Refuses};
 ghost use Rattle.opcheck_script.specs.Attempts.{IsThere, IsAnswer, EndsRun, RunsEach, accepted_of, accepted_at};
-ghost use Rattle.script_parts.specs.Written.{may_all_be_attempted};
+ghost use Rattle.script_reader.specs.Written.{may_all_be_attempted};
 ghost use Rattle.opcheck_script.specs.Reports.{Runs, accepted_in, is_attempted};
 
 use crate::report::{After, Answers, Report};
 use std::alloc::Global;
-use validate_func::FuncValidator;
 use validate_operators::{OperatorValidator, check_ops};
 use validate_resources::WasmModuleResources;
 use validate_types::{Error, OutOfMemory};
 use validate_visit::Op;
+use wasmparser_validate::func::FuncValidator;
 
 /// What is answered at an operator: what is there after it, or the refusal of an attempt.
 type Answer = Result<After, Error>;

@@ -5,7 +5,7 @@ ghost use Rattle.validate_resources.specs.Kept.{declared_lists};
 ghost use Rattle.validate_resources.specs.Lists.{module_of};
 ghost use Rattle.validate_resources.specs.Named.{declared_in};
 ghost use Rattle.opcheck_script.specs.Reports.{ChecksScript, script_body};
-ghost use Rattle.script_parts.specs.Written.{may_all_be_attempted};
+ghost use Rattle.script_reader.specs.Written.{may_all_be_attempted};
 ghost use Rattle.opcheck_script.specs.declared.failure.BadScript.{BadScript};
 ghost use Rattle.opcheck_script.specs.declared.failure.Failure.{Failure};
 

@@ -2,7 +2,7 @@
 
 use crate::atomic::ATOMIC_OPERATORS;
 use crate::memory::LOADS_AND_STORES;
-use script_parts::{named_in, read_access};
+use crate::parts::{named_in, read_access};
 use validate_visit::{IntegerType, NumberType, Op, PackedInteger};
 
 /// The operator of this name with the access that these words write, if it has one.

@@ -1,9 +1,9 @@
 //! Why a script isn't read.
 
 ghost use Rattle.std.specs.Prelude.{◌≡◌};
-ghost use Rattle.script_parts.specs.declared.failure.LineError.{LineError};
+ghost use Rattle.script_reader.specs.declared.parts.failure.LineError.{LineError};
 
-use script_parts::LineError;
+use crate::parts::LineError;
 
 /// Why a text gives no script.
 #[derive(Clone, Copy)]

@@ -11,11 +11,12 @@ mod lines;
 mod memory;
 mod numeric;
 mod operators;
+mod parts;
 mod plain;
 mod script;
 mod shared;
 
 pub use crate::failure::ScriptError;
 pub use crate::operators::read_operator;
+pub use crate::parts::{BodyLine, LineError, ListedOperator, OperatorList, Operators, Script};
 pub use crate::script::read_script;
-pub use script_parts::{BodyLine, LineError, ListedOperator, OperatorList, Operators, Script};

@@ -1,7 +1,7 @@
 //! Reading the lines of a script, each for itself.
 
 use crate::features::read_feature;
-use script_parts::{
+use crate::parts::{
     Line, LineError, read_function, read_global_type, read_index, read_memory_type, read_reference,
     read_table_type, read_type, read_value_type,
 };

@@ -2,7 +2,7 @@
 //!
 //! `.ci/generate` writes the tables from `operators.tsv`.
 
-use script_parts::{named_in, read_i32, read_i64, read_index, read_u64};
+use crate::parts::{named_in, read_i32, read_i64, read_index, read_u64};
 use validate_visit::{
     FloatBinaryOp, FloatComparisonOp, FloatType, FloatUnaryOp, Ieee32, Ieee64, IntegerBinaryOp,
     IntegerComparisonOp, IntegerType, IntegerUnaryOp, NumberType, NumericOp, Sign,

@@ -5,13 +5,13 @@
 use crate::access::read_accessing;
 use crate::conversions::CONVERSIONS;
 use crate::numeric::{read_numeric, split_number_type};
-use crate::plain::PLAIN;
-use crate::shared::shared_access;
-use script_parts::{
+use crate::parts::{
     LineError, OperatorList, has_list, named_in, read_block_type, read_branch_cast, read_heap_type,
     read_indexed, read_list, read_ordering, read_reference, read_shared, read_value_type, ref_cast,
     ref_cast_desc_eq, ref_test,
 };
+use crate::plain::PLAIN;
+use crate::shared::shared_access;
 use std::alloc::Global;
 use validate_visit::{AtomicOp, BlockType, ControlOp, ExceptionOp, Op, ReferenceOp};
 

@@ -3,7 +3,7 @@
 use crate::failure::ScriptError;
 use crate::lines::read_line;
 use crate::operators::{lent, read_flat_operator};
-use script_parts::{
+use crate::parts::{
     Draft, LineError, ListedOperator, Operators, Script, has_list, read_list, read_words,
 };
 use std::alloc::Global;

@@ -2,7 +2,7 @@
 //!
 //! `.ci/generate` writes the tables from `operators.tsv`.
 
-use script_parts::{SharedAccess, named_in};
+use crate::parts::{SharedAccess, named_in};
 use validate_visit::Exchange::{Cmpxchg, Get, Set, Xchg};
 use validate_visit::FieldAccess::{GetPacked, Whole};
 use validate_visit::SharedRmwOp::{Add, And, Or, Sub, Xor};

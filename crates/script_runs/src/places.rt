@@ -6,11 +6,11 @@ ghost use Rattle.validate_stacks.specs.State.{IsStarting};
 use crate::snapshot::add_type;
 use crate::tally::Tally;
 use std::alloc::{AllocError, Global};
-use validate_func::operands_before;
 use validate_operators::OperatorValidator;
 use validate_resources::WasmModuleResources;
 use validate_types::ValType;
 use validate_visit::{Op, is_well_ordered};
+use wasmparser_validate::func::operands_before;
 
 /// Prints a line of these types, each behind a space.
 fn add_types(tally: &mut Tally, types: &[Option<ValType>]) -> Result<(), AllocError> {

@@ -27,16 +27,16 @@ use validate_rows::tables::table_operator;
 use validate_rows::variables::{local_get, local_set, local_tee};
 use validate_rows_gc::arrays::array_operator;
 use validate_rows_gc::casts::{br_on_cast, br_on_cast_fail, ref_cast, ref_test};
+use validate_rows_gc::clauses::try_table;
+use validate_rows_gc::continuations::continuation_operator;
 use validate_rows_gc::descriptors::{
     br_on_cast_desc_eq, br_on_cast_desc_eq_fail, ref_cast_desc_eq, ref_get_desc,
 };
 use validate_rows_gc::found::{convert_ref, measure, ref_eq, ref_i31};
+use validate_rows_gc::legacy::{catch, catch_all, delegate};
 use validate_rows_gc::places::shared_operator;
 use validate_rows_gc::structs::struct_operator;
-use validate_rows_handlers::clauses::try_table;
-use validate_rows_handlers::continuations::continuation_operator;
-use validate_rows_handlers::legacy::{catch, catch_all, delegate};
-use validate_rows_handlers::throws::{rethrow, throw, throw_ref};
+use validate_rows_gc::throws::{rethrow, throw, throw_ref};
 use validate_shapes::blocks::{open_block, open_if};
 use validate_stacks::{Body, Stacks};
 use validate_types::{AbstractHeapType, Gate, Refusal, Refused};

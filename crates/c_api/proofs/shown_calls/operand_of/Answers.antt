@@ -1,5 +1,5 @@
 use Rattle.std.specs.Prelude.{◌≡◌, None, option_map}
-use Rattle.validate_func.specs.Functions.{body_state}
+use Rattle.wasmparser_validate.specs.Functions.{body_state}
 use Rattle.validate_stacks.specs.Steps.{type_at_depth}
 use Rattle.c_api.specs.Functions.{InProgress}
 use Rattle.c_api.specs.Handle.{held_in}

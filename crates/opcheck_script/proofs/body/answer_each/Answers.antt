@@ -6,7 +6,7 @@ use Rattle.validate_visit.specs.declared.op.Op.{Op}
 use Rattle.validate_stacks.specs.State.{body_context}
 use Rattle.validation_rules.specs.Context.{Context}
 use Rattle.validation_rules.specs.Static.{State}
-use Rattle.validate_func.specs.Functions.{FunctionState}
+use Rattle.wasmparser_validate.specs.Functions.{FunctionState}
 use Rattle.validate_operators.specs.Runs.{IsSafeFrom}
 use Rattle.validate_operators.proofs.Listed.{IsOrderedBelow, at_place}
 use Rattle.opcheck_script.specs.Attempts.{Answer, IsAnswer, AreAnswers, EndsRun, RunsEach, accepted_of, accepted_at}

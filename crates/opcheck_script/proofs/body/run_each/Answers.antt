@@ -1,5 +1,5 @@
 use Rattle.std.proofs.Common.{◌≡◌, true, Ok, subst}
-use Rattle.validate_func.specs.Functions.{FunctionState}
+use Rattle.wasmparser_validate.specs.Functions.{FunctionState}
 use Rattle.validate_operators.specs.Runs.{IsSafe}
 use Rattle.opcheck_script.specs.Attempts.{accepted_of}
 use Rattle.opcheck_script.proofs.body.run_each.Goals as goal

@@ -4,7 +4,7 @@ use Rattle.validate_operators.proofs.Accepted.{accepted_whole}
 use Rattle.validate_operators.proofs.Listed.{safe_accepted}
 use Rattle.validate_operators.specs.Runs.{IsAcceptedBody}
 use Rattle.validate_operators.specs.Start.{state}
-use Rattle.validate_func.specs.Functions.{state_from}
+use Rattle.wasmparser_validate.specs.Functions.{state_from}
 use Rattle.validate_resources.specs.Context.{IsLawful}
 use Rattle.c_api.specs.Functions.{InProgress, module_under}
 use Rattle.c_api.specs.Modules.{context_in, module_of}

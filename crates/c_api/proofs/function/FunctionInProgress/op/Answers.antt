@@ -1,7 +1,7 @@
 -- The operator joins the list, or none can be taken.
 use Rattle.std.proofs.Common.{◌≡◌, ◌∙◌, true, false, sym, ap, subst}
 use Rattle.validate_operators.specs.Start.{state}
-use Rattle.validate_func.specs.Functions.{function_state, body_state}
+use Rattle.wasmparser_validate.specs.Functions.{function_state, body_state}
 use Rattle.validate_stacks.specs.State.{IsValidBody}
 use Rattle.validate_types.specs.Features.{has, simd}
 use Rattle.c_api.specs.Functions.{InProgress, module_under, Takes}

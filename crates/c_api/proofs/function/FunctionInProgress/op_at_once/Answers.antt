@@ -2,7 +2,7 @@
 use Rattle.std.proofs.Common.{◌≡◌, true, false, subst}
 use Rattle.validate_operators.proofs.Listed.{visit_valid, visit_kept}
 use Rattle.validate_operators.specs.Start.{state}
-use Rattle.validate_func.specs.Functions.{function_state}
+use Rattle.wasmparser_validate.specs.Functions.{function_state}
 use Rattle.c_api.specs.Functions.{InProgress, Takes}
 use Rattle.c_api.specs.VisitsMade.{IsVisited}
 use Rattle.c_api.proofs.Answered.{not_both}

@@ -1,7 +1,0 @@
-use Rattle.script_parts.specs.Catches.{IsCatchName}
-use Rattle.script_parts.proofs.Named.{AreNamed}
-use Rattle.script_parts.proofs.catches.read_catches.Given as goal
-
--- The clauses are those that the words so far write.
-abbrev pub invariant-loop-word : goal.invariant-loop-word
-invariant-loop-word l = AreNamed IsCatchName l.words l.word-index l.catches.items

@@ -1,7 +1,0 @@
-use Rattle.script_parts.specs.Fields.{IsFieldName}
-use Rattle.script_parts.proofs.Named.{AreNamed}
-use Rattle.script_parts.proofs.fields.read_fields.Given as goal
-
--- The fields are those that the words so far write.
-abbrev pub invariant-loop-word : goal.invariant-loop-word
-invariant-loop-word l = AreNamed IsFieldName l.words l.word-index l.fields.items

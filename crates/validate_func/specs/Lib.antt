@@ -1,2 +1,0 @@
-pub mod Functions
-pub mod Operands

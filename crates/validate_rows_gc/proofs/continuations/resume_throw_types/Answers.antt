@@ -1,0 +1,36 @@
+use Rattle.std.proofs.Common.{rules, ◌≡◌, false, List, [], ◌∷◌, ◌++◌, sym, ap, ◌∙◌}
+use Rattle.validate_types.specs.declared.types.ValType.{ValType}
+use Rattle.validation_rules.specs.Context.{Signature}
+use Rattle.validation_rules.specs.Continuations.{resume_throw_row}
+use Rattle.validation_rules.specs.Exceptions.{exception_types}
+use Rattle.validation_rules.specs.Operators.{plain_row}
+use Rattle.validation_rules.specs.Static.{heads}
+use Rattle.validate_stacks.specs.State.{body_context}
+use Rattle.validate_rows_gc.specs.Handlers.{IsNeverResumed}
+use Rattle.validate_rows_gc.proofs.ResumedRows.{resuming_is}
+use Rattle.validate_rows_gc.proofs.continuations.resume_throw_types.Goals as goal
+
+pub returns-in_err-resumed : goal.returns-in_err-resumed
+returns-in_err-resumed g c =
+    let v = c.args.body.now.stacks.now.body in
+    let cx = body_context (g.R.WasmModuleResources.context c.args.body.now.resources.now) v in
+    let hs = heads v.present.frames in
+    let never : IsNeverResumed cx hs c.args.cont_type_index c.args.handlers.now → (resume_throw_row cx hs c.args.cont_type_index c.args.tag_index c.args.handlers.now).premise ≡ false =
+    λ n. n.barred (λ (f : Signature). exception_types cx.of_module c.args.tag_index) in
+    record { found = search rules; valid = search rules; refused = search (rules, never) }
+
+pub returns : goal.returns
+returns g c =
+    let v = c.args.body.now.stacks.now.body in
+    let cx = body_context (g.R.WasmModuleResources.context c.args.body.now.resources.now) v in
+    let hs = heads v.present.frames in
+    let f = c.in_ok-resumed.resumed.func_type.now in
+    let t = c.in_ok-resumed.resumed.reference in
+    let found = c.in_ok-resumed.ensures in
+    record {
+      found =
+          resuming_is cx hs c.args.cont_type_index c.args.handlers.now f found.found t found.reference (λ (f : Signature). exception_types cx.of_module c.args.tag_index) c.in_ok-thrown.thrown.now c.in_ok-thrown.ensures.found found.handlers
+          ∙ ap (λ (rs : List ValType). plain_row (c.in_ok-thrown.thrown.now ++ t ∷ []) rs) (sym c.results.ensures);
+      valid = search rules;
+      refused = tt;
+    }

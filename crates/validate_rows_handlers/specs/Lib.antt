@@ -1,3 +1,0 @@
-pub mod Clauses
-pub mod Targets
-pub mod Handlers

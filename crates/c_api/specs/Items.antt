@@ -1,7 +1,7 @@
 -- What is reported of the constant expressions and bodies of a module in one row (the crate's own).
 use Rattle.std.specs.Prelude.{◌≡◌, ℕ, ◌-◌, ◌≤◌, ◌<◌, Some}
 use Rattle.module_check.specs.FaultyModule.{IsInvalidAt, IsMalformedAt}
-use Rattle.module_check.specs.Items.{IsItemAt, IsRefusedAt, IsSafeAt, item_count}
+use Rattle.module_check.specs.Items.{IsItemAt, IsNotAcceptedAt, IsSafeAt, item_count}
 use Rattle.module_check.specs.UncoveredModule.{IsUncoveredAt}
 use Rattle.module_check.specs.Verdicts.{Reports, SaysNo}
 use Rattle.module_check.specs.declared.loaded.LoadedModule.{LoadedModule}
@@ -26,7 +26,7 @@ pub record IsReportedAt (m : LoadedModule) (place : ℕ) (v : ModuleVerdict) : T
 -- what a status says of what stands at this place of the row
 pub record ItemAnswer (m : LoadedModule) (place status : ℕ) : Type 0 where
   pub safe : status ≡ 0 → IsSafeAt m place
-  pub refused : SaysNo status → IsRefusedAt m place
+  pub refused : SaysNo status → IsNotAcceptedAt m place
   pub invalid : status ≡ 1 → IsInvalidAt m place
   pub malformed : status ≡ 2 → IsMalformedAt m place
   pub uncovered : status ≡ 4 → IsUncoveredAt m place

@@ -43,8 +43,8 @@ pub record StandsAt
   pub body : expression_count m ≤ place → function_at m place < 2 ^ 32 → of_function (function_at m place)
 
 -- it isn't accepted
-abbrev pub IsRefusedAt : LoadedModule → ℕ → Type 0
-IsRefusedAt m = StandsAt m (λ e. ¬ IsAcceptedExpression m e) (λ function. ¬ IsAcceptedFunction m function)
+abbrev pub IsNotAcceptedAt : LoadedModule → ℕ → Type 0
+IsNotAcceptedAt m = StandsAt m (λ e. ¬ IsAcceptedExpression m e) (λ function. ¬ IsAcceptedFunction m function)
 
 -- each of the first so many is safe
 abbrev pub AreSafeBelow : LoadedModule → ℕ → Type 0

@@ -2,7 +2,7 @@
 
 ghost use Rattle.std.specs.Prelude.{◌≡◌, ◌≢◌, ◌<◌, ℕ};
 ghost use Rattle.module_check.specs.FaultyModule.{IsInvalidAt, IsMalformedAt};
-ghost use Rattle.module_check.specs.Items.{IsItemAt, IsRefusedAt, IsSafeAt, item_count};
+ghost use Rattle.module_check.specs.Items.{IsItemAt, IsNotAcceptedAt, IsSafeAt, item_count};
 ghost use Rattle.module_check.specs.Loaded.{IsAcceptedModule};
 ghost use Rattle.module_check.specs.UncoveredModule.{IsUncoveredAt};
 ghost use Rattle.module_check.specs.declared.verdict.Verdict.TheVariants.{Accepted, Refused, Malformed, NotCovered, OutOfMemory};
@@ -36,7 +36,7 @@ pub fn item_count(module: &LoadedModule<'_>) -> usize
 pub fn check_item(module: &LoadedModule<'_>, place: usize, buffers: &mut BodyBuffers) -> Checked
     ensures item { IsItemAt module.now place result.item }
     ensures safe { result.verdict ≡ Accepted → IsSafeAt module.now place }
-    ensures refused { result.verdict ≢ Accepted → result.verdict ≢ OutOfMemory → IsRefusedAt module.now place }
+    ensures refused { result.verdict ≢ Accepted → result.verdict ≢ OutOfMemory → IsNotAcceptedAt module.now place }
     ensures unaccepted { place < item_count module.now → result.verdict ≢ Accepted → result.verdict ≢ OutOfMemory
         → ¬ IsAcceptedModule module.now }
     ensures uncovered { (offset : ℕ) → result.verdict ≡ NotCovered offset → IsUncoveredAt module.now place }

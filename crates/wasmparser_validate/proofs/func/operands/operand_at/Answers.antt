@@ -1,7 +1,7 @@
 use Rattle.std.proofs.Common.{◌<◌, length, sym, ◌∙◌, arith}
 use Rattle.validate_stacks.specs.Steps.{all_operands}
 use Rattle.validate_operators.specs.Start.{state}
-use Rattle.wasmparser_validate.proofs.Types.{length-all, type_there}
+use Rattle.wasmparser_validate.proofs.OperandTypes.{length-all, type_there}
 use Rattle.wasmparser_validate.proofs.func.operands.operand_at.Goals as goal
 
 pub unreachable-requires : goal.unreachable-requires

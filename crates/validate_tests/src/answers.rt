@@ -1,7 +1,8 @@
 //! What operators answer, a line each, in each way in which a body is run. Want of memory is no answer: it ends a run, once
 //! what it leaves was looked at.
 
-ghost use Rattle.std.specs.Prelude.{◌≡◌, ◌≢◌, [], None};
+ghost use Rattle.std.specs.Prelude.{◌≡◌, None};
+ghost use Rattle.validate_stacks.specs.Pops.{IsKept};
 ghost use Rattle.validate_stacks.specs.State.{IsStarting, IsValidBody};
 ghost use Rattle.validate_stacks.specs.Visits.{MayVisit};
 ghost use Rattle.wasmparser_validate.specs.Start.{state, stacks_of};
@@ -37,6 +38,22 @@ pub fn add_answer<S: Seen>(text: &mut Written, answer: &Result<(), Error>, seen:
     add_seen(text, seen);
 }
 
+/// Checks an operator, and adds the line of its answer. Whether it is accepted.
+fn add_check<R: WasmModuleResources>(
+    text: &mut Written,
+    v: &mut OperatorValidator,
+    lists: &R,
+    op: &Op<'_>,
+) -> bool
+    requires { MayVisit (R.context lists.now) (stacks_of v.old) }
+    ensures valid { IsValidBody (R.context lists.now) (state v.new) }
+    ensures kept { IsKept (state v.old) (state v.new) }
+{
+    let answer = v.check(lists, OFFSET, *op);
+    add_answer(text, &answer, v);
+    answer.is_ok()
+}
+
 /// Attempts an operator, and takes it back: then all is as it was before. Adds what was there within the attempt, and
 /// behind it.
 fn add_undone<R: WasmModuleResources>(
@@ -44,7 +61,7 @@ fn add_undone<R: WasmModuleResources>(
     text: &mut Written,
     v: &mut OperatorValidator,
     lists: &R,
-    op: Op<'_>,
+    op: &Op<'_>,
 )
     requires idle { (state v.old).undone ≡ None }
     requires visit { MayVisit (R.context lists.now) (stacks_of v.old) }
@@ -52,11 +69,12 @@ fn add_undone<R: WasmModuleResources>(
 {
     let before = Snapshot::of(rt, v);
     v.begin_try_op();
-    expect(rt, v.is_pending() && v.can_attempt());
-    let answer = v.check(lists, OFFSET, op);
-    add_answer(text, &answer, v);
+    expect(rt, v.is_pending());
+    expect(rt, v.can_attempt());
+    add_check(text, v, lists, op);
     v.rollback();
-    expect(rt, before.is_of(v) && !v.is_pending());
+    expect(rt, !v.is_pending());
+    expect(rt, before.is_of(v));
     text.expect_memory(rt);
     add_seen(text, v);
 }
@@ -67,7 +85,7 @@ fn add_attempted<R: WasmModuleResources>(
     text: &mut Written,
     v: &mut OperatorValidator,
     lists: &R,
-    op: Op<'_>,
+    op: &Op<'_>,
 )
     requires idle { (state v.old).undone ≡ None }
     requires visit { MayVisit (R.context lists.now) (stacks_of v.old) }
@@ -76,9 +94,7 @@ fn add_attempted<R: WasmModuleResources>(
 {
     let before = Snapshot::of(rt, v);
     v.begin_try_op();
-    let answer = v.check(lists, OFFSET, op);
-    add_answer(text, &answer, v);
-    if answer.is_ok() {
+    if add_check(text, v, lists, op) {
         v.commit();
     } else {
         v.rollback();
@@ -87,14 +103,56 @@ fn add_attempted<R: WasmModuleResources>(
     expect(rt, !v.is_pending());
 }
 
-/// Attempts an operator twice by one call: it is taken back, and then kept where it is accepted. Else all is as it was
-/// before.
+/// Attempts an operator by one call, which takes it back: then all is as it was before. Whether it is accepted.
+fn is_accepted_by_try<R: WasmModuleResources>(
+    rt: &impl Abort,
+    v: &mut OperatorValidator,
+    lists: &R,
+    op: &Op<'_>,
+    before: &Snapshot,
+) -> bool
+    requires idle { (state v.old).undone ≡ None }
+    requires visit { MayVisit (R.context lists.now) (stacks_of v.old) }
+    ensures same { state v.new ≡ state v.old }
+{
+    let answer = try_and_undo(v, lists, OFFSET, *op);
+    expect(rt, before.is_of(v));
+    expect_memory(rt, wants_memory(&answer));
+    answer.is_ok()
+}
+
+/// Attempts an operator by one call, which keeps it where it is accepted. Else all is as it was before. Whether it is
+/// accepted.
+fn add_tried<R: WasmModuleResources>(
+    rt: &impl Abort,
+    text: &mut Written,
+    v: &mut OperatorValidator,
+    lists: &R,
+    op: &Op<'_>,
+    before: &Snapshot,
+) -> bool
+    requires idle { (state v.old).undone ≡ None }
+    requires visit { MayVisit (R.context lists.now) (stacks_of v.old) }
+    ensures idle { (state v.new).undone ≡ None }
+    ensures valid { IsValidBody (R.context lists.now) (state v.new) }
+{
+    let answer = try_op(v, lists, OFFSET, *op);
+    expect(rt, answer.is_ok() || before.is_of(v));
+    expect_memory(rt, wants_memory(&answer));
+    match &answer {
+        Ok(()) => add_seen(text, v),
+        Err(refusal) => text.add_refusal(refusal, "\n"),
+    }
+    answer.is_ok()
+}
+
+/// Attempts an operator twice by one call: it is taken back, and then kept where it is accepted.
 fn add_tries<R: WasmModuleResources>(
     rt: &(impl Abort + AllocGlobal),
     text: &mut Written,
     v: &mut OperatorValidator,
     lists: &R,
-    op: Op<'_>,
+    op: &Op<'_>,
 )
     requires idle { (state v.old).undone ≡ None }
     requires visit { MayVisit (R.context lists.now) (stacks_of v.old) }
@@ -102,17 +160,11 @@ fn add_tries<R: WasmModuleResources>(
     ensures valid { IsValidBody (R.context lists.now) (state v.new) }
 {
     let before = Snapshot::of(rt, v);
-    let undone = try_and_undo(v, lists, OFFSET, op);
-    expect(rt, before.is_of(v));
-    expect_memory(rt, wants_memory(&undone));
-    let answer = try_op(v, lists, OFFSET, op);
-    expect(rt, answer.is_ok() || before.is_of(v));
-    expect_memory(rt, wants_memory(&answer));
-    expect(rt, answer.is_ok() == undone.is_ok());
-    match answer {
-        Ok(()) => add_seen(text, v),
-        Err(refusal) => text.add_refusal(&refusal, "\n"),
-    }
+    let is_accepted = is_accepted_by_try(rt, v, lists, op, &before);
+    expect(
+        rt,
+        add_tried(rt, text, v, lists, op, &before) == is_accepted,
+    );
 }
 
 /// Visits an operator.
@@ -121,7 +173,7 @@ fn add_visited<R: WasmModuleResources>(
     text: &mut Written,
     v: &mut OperatorValidator,
     lists: &R,
-    op: Op<'_>,
+    op: &Op<'_>,
     call: Call,
 )
     requires idle { (state v.old).undone ≡ None }
@@ -140,7 +192,7 @@ fn add_step<R: WasmModuleResources>(
     text: &mut Written,
     v: &mut OperatorValidator,
     lists: &R,
-    op: Op<'_>,
+    op: &Op<'_>,
     is_undone: bool,
     step: Step,
 )
@@ -181,7 +233,7 @@ pub fn add_each<R: WasmModuleResources>(
         let (line, behind) = left.split_once('\n').unwrap_or((left, ""));
         left = behind;
         let is_undone = line.starts_with("try ");
-        add_step(rt, text, v, lists, pair.0, is_undone, step);
+        add_step(rt, text, v, lists, &pair.0, is_undone, step);
     }
 }
 
@@ -211,7 +263,8 @@ fn add_checked<S: Seen>(
             expect_same(rt, place, heights.len());
             expect_memory(rt, refusal.is_out_of_memory());
             add_heights(text, heights);
-            add_answer(text, &Err(refusal), seen);
+            text.add_refusal(&refusal, "; ");
+            add_seen(text, seen);
         }
     }
     text.expect_memory(rt);
@@ -235,44 +288,47 @@ pub fn add_list<R: WasmModuleResources>(
     }
 }
 
-/// Visits an operator of a function. It is accepted, or the function has failed.
-fn add_op<'a, R: WasmModuleResources>(
+/// Checks an operator of a function in which a frame is open. It is accepted, and then one more is.
+pub fn check_in<'a, R: WasmModuleResources>(
     rt: &impl Abort,
-    text: &mut Written,
     function: &mut FuncValidator<'a, '_, R>,
-    pair: (Op<'a>, u64),
-)
-    requires { function.old.present.frames ≢ [] }
-{
-    let (op, offset) = pair;
+    (op, offset): (&Op<'a>, u64),
+    is_attempted: bool,
+) -> Result<(), Error> {
+    expect(rt, function.control_stack_height() > 0);
     let count = function.accepted().len();
-    let answer = function.op(offset, op);
-    expect(rt, function.is_failed() == answer.is_err());
+    let answer = if is_attempted {
+        function.try_op(offset, *op)
+    } else {
+        function.op(offset, *op)
+    };
     expect(rt, (function.accepted().len() == count) == answer.is_err());
-    expect(rt, has_rising_heights(function));
-    text.add_words(&answer);
-    add_seen(text, function);
+    answer
 }
 
-/// Attempts an operator of a function. It is accepted, or all is as it was before.
-fn add_try_op<'a, R: WasmModuleResources>(
+/// Adds what an operator of a function answers. One that is refused makes the function fail, unless it is attempted: then
+/// all is as it was before.
+fn add_op<'a, R: WasmModuleResources>(
     rt: &(impl Abort + AllocGlobal),
     text: &mut Written,
     function: &mut FuncValidator<'a, '_, R>,
-    pair: (Op<'a>, u64),
-)
-    requires { function.old.present.frames ≢ [] }
-{
+    pair: &(Op<'a>, u64),
+    is_attempted: bool,
+) {
     let before = Snapshot::of(rt, function);
-    let (op, offset) = pair;
-    let count = function.accepted().len();
-    let answer = function.try_op(offset, op);
-    expect(rt, !function.is_failed());
-    expect(rt, (function.accepted().len() == count) == answer.is_err());
-    expect(rt, answer.is_ok() || before.is_of(function));
-    match answer {
-        Ok(()) => add_seen(text, function),
-        Err(refusal) => text.add_refusal(&refusal, "\n"),
+    let answer = check_in(rt, function, (&pair.0, pair.1), is_attempted);
+    expect(rt, has_rising_heights(function));
+    if is_attempted {
+        expect(rt, !function.is_failed());
+        expect(rt, answer.is_ok() || before.is_of(function));
+    } else {
+        expect(rt, function.is_failed() == answer.is_err());
+    }
+    if let Err(refusal) = &answer {
+        text.add_refusal(refusal, if is_attempted { "\n" } else { "; " });
+    }
+    if answer.is_ok() || !is_attempted {
+        add_seen(text, function);
     }
 }
 
@@ -288,11 +344,7 @@ pub fn add_each_in<'a, R: WasmModuleResources>(
         if function.control_stack_height() == 0 {
             return;
         }
-        if are_attempted {
-            add_try_op(rt, text, function, *pair);
-        } else {
-            add_op(rt, text, function, *pair);
-        }
+        add_op(rt, text, function, pair, are_attempted);
         text.expect_memory(rt);
     }
 }

@@ -8,11 +8,10 @@ ghost use Rattle.validate_stacks.specs.State.{IsStarting};
 ghost use Rattle.validate_stacks.specs.Visits.{MayVisit};
 ghost use Rattle.wasmparser_validate.specs.Start.{state, stacks_of};
 
+use crate::examples::{Example, expect_example_in};
 use crate::expectations::{ample, expect, expect_error, expect_memory, expect_same, wants_memory};
-use crate::modules::lists_of;
 use crate::snapshot::Snapshot;
-use crate::visits::{BLOCK, I32_CONST, UNREACHABLE, begun_in, visit_each};
-use std::mem;
+use crate::visits::{BLOCK, I32_CONST, UNREACHABLE, visit_each};
 use std::process::Abort;
 use wasmparser_validate::operators::{
     OperatorValidator, OperatorValidatorAllocations, Pops, WasmProposalValidator,
@@ -24,7 +23,7 @@ use wasmparser_validate::visit::Op;
 const NOTHING: &str = "type mismatch: expected i32 but nothing on stack";
 
 /// A run of pops.
-struct Run {
+pub struct Run {
     /// The operators before it.
     before: &'static [Op<'static>],
     /// How many operands are popped.
@@ -145,7 +144,7 @@ fn expect_undone<R: WasmModuleResources>(
 }
 
 /// A run behind its operators: in an attempt that is taken back, and then for good.
-fn expect_both<R: WasmModuleResources>(
+pub fn expect_both<R: WasmModuleResources>(
     rt: &(impl Abort + AllocGlobal),
     v: &mut OperatorValidator,
     lists: &R,
@@ -160,13 +159,12 @@ fn expect_both<R: WasmModuleResources>(
 }
 
 /// Each run in a new body, in the buffers of the one before it.
-pub fn expect_runs(rt: &(impl Abort + AllocGlobal), used: &mut OperatorValidatorAllocations) {
-    let lists = lists_of(rt, "memory");
+pub fn expect_runs(
+    rt: &(impl Abort + AllocGlobal + Print),
+    used: &mut OperatorValidatorAllocations,
+) {
     for run in RUNS {
-        let allocs = mem::replace(used, OperatorValidatorAllocations::new(rt.alloc()));
-        let mut v = begun_in(rt, &lists, allocs);
-        expect_both(rt, &mut v, &lists, run);
-        *used = v.into_allocations();
+        expect_example_in(rt, used, Example::Run(run));
     }
 }
 

@@ -5,14 +5,17 @@ ghost use Rattle.std.specs.Prelude.{◌≡◌, [], false};
 ghost use Rattle.validate_stacks.specs.State.{IsStarting};
 ghost use Rattle.wasmparser_validate.specs.Start.{state};
 
-use crate::expectations::{ample, expect, expect_error};
-use crate::modules::{lists_of, new_function};
+use crate::answers::check_in;
+use crate::examples::{Example, expect_example};
+use crate::expectations::{ample, expect, expect_error, expect_same};
+use crate::modules::{function_of, lists_of};
 use crate::visits::{I32_CONST, I64_CONST};
+use crate::without_memory::expect_end;
 use std::process::Abort;
 use wasmparser_validate::func::{FuncValidator, operands_before};
-use wasmparser_validate::operators::OperatorValidator;
-use wasmparser_validate::resources::{ModuleLists, WasmModuleResources};
-use wasmparser_validate::types::{Error, ValType};
+use wasmparser_validate::operators::{OperatorValidator, OperatorValidatorAllocations};
+use wasmparser_validate::resources::WasmModuleResources;
+use wasmparser_validate::types::ValType;
 use wasmparser_validate::visit::{
     ControlOp, FrameKind, IntegerBinaryOp, IntegerType, NumericOp, Op, is_well_ordered,
 };
@@ -26,6 +29,12 @@ const I32_ADD: Op<'static> = Op::Numeric(NumericOp::IntegerBinary(
     IntegerBinaryOp::Add,
 ));
 
+const CONSTANTS: &[Op<'static>] = &[I64_CONST, I32_CONST];
+
+const REST: &[Op<'static>] = &[DROP, DROP, END];
+
+const ADDITION: &Op<'static> = &I32_ADD;
+
 const OPEN: &str = "control frames remain at end of function: END opcode expected";
 
 const NOTHING: &str = "type mismatch: expected i32 but nothing on stack";
@@ -34,36 +43,6 @@ const OTHER: &str = "type mismatch: expected i32, found i64";
 
 const FAILED: &str = "function validator has failed";
 
-/// A function of type 0.
-fn function_of<'a, 'lists>(
-    rt: &(impl Abort + AllocGlobal),
-    lists: &'lists ModuleLists,
-) -> FuncValidator<'a, 'lists, ModuleLists>
-    ensures { (result.accepted ≡ []) × (result.failed ≡ false) }
-{
-    FuncValidator::new(rt.alloc(), new_function(rt, lists), lists)
-}
-
-/// Visits an operator, where a frame is open.
-fn visit<'a, R: WasmModuleResources>(
-    rt: &impl Abort,
-    function: &mut FuncValidator<'a, '_, R>,
-    op: Op<'a>,
-) -> Result<(), Error> {
-    expect(rt, function.control_stack_height() > 0);
-    function.op(9, op)
-}
-
-/// Attempts an operator, where a frame is open.
-fn attempt<'a, R: WasmModuleResources>(
-    rt: &impl Abort,
-    function: &mut FuncValidator<'a, '_, R>,
-    op: Op<'a>,
-) -> Result<(), Error> {
-    expect(rt, function.control_stack_height() > 0);
-    function.try_op(9, op)
-}
-
 /// Visits operators that are accepted.
 fn accept<'a, R: WasmModuleResources>(
     rt: &impl Abort,
@@ -71,7 +50,7 @@ fn accept<'a, R: WasmModuleResources>(
     ops: &[Op<'a>],
 ) {
     for op in ops {
-        ample(rt, visit(rt, function, *op));
+        ample(rt, check_in(rt, function, (op, 9), false));
     }
 }
 
@@ -80,27 +59,24 @@ fn expect_two_operands<R: WasmModuleResources>(
     rt: &impl Abort,
     function: &FuncValidator<'_, '_, R>,
 ) {
-    expect(
-        rt,
-        function.operand_stack_height() == 2 && function.control_stack_height() == 1,
-    );
-    expect(rt, function.peek_operand_at(0) == Some(Some(ValType::I32)));
-    expect(rt, function.get_operand_type(1) == Some(Some(ValType::I64)));
-    expect(rt, function.peek_operand_at(2).is_none());
-    expect(
-        rt,
-        matches!(function.current_frame(), Some(FrameKind::Block)),
-    );
+    expect_same(rt, function.operand_stack_height(), 2);
+    expect_same(rt, function.control_stack_height(), 1);
+    expect_same(rt, function.peek_operand_at(0), Some(Some(ValType::I32)));
+    expect_same(rt, function.get_operand_type(1), Some(Some(ValType::I64)));
+    expect_same(rt, function.peek_operand_at(2), None);
+    expect_same(rt, function.current_frame(), Some(FrameKind::Block));
     expect(rt, function.get_frame(0) == Some(&function.first_frame()));
     expect(rt, function.get_control_frame(1).is_none());
-    expect(rt, function.accepted().len() == 2 && !function.is_failed());
+    expect_same(rt, function.accepted().len(), 2);
+    expect(rt, !function.is_failed());
 }
+
+const TYPES: &[Option<ValType>] = &[Some(ValType::I64), Some(ValType::I32)];
 
 /// The types of all operands are an i64 and, on top, an i32.
 fn expect_types<R: WasmModuleResources>(rt: &impl Abort, function: &FuncValidator<'_, '_, R>) {
     let types = ample(rt, function.operand_types());
-    let expected = [Some(ValType::I64), Some(ValType::I32)];
-    expect(rt, types.as_slice() == expected.as_slice());
+    expect_same(rt, types.as_slice(), TYPES);
 }
 
 /// The attempt of an addition is refused, and leaves no trace: the two constants are dropped, and the function ends.
@@ -108,24 +84,22 @@ fn expect_five_accepted<R: WasmModuleResources>(
     rt: &impl Abort,
     function: &mut FuncValidator<'static, '_, R>,
 ) {
-    accept(rt, function, &[I64_CONST, I32_CONST]);
-    expect_error(rt, attempt(rt, function, I32_ADD), OTHER, 9);
+    accept(rt, function, CONSTANTS);
+    expect_error(rt, check_in(rt, function, (ADDITION, 9), true), OTHER, 9);
     expect_two_operands(rt, function);
     expect_types(rt, function);
-    accept(rt, function, &[DROP, DROP, END]);
-    expect(
-        rt,
-        function.accepted().len() == 5 && function.current_frame().is_none(),
-    );
+    accept(rt, function, REST);
+    expect_same(rt, function.accepted().len(), 5);
+    expect_same(rt, function.current_frame(), None);
     ample(rt, function.finish(9));
 }
 
-#[test]
-fn an_attempt_that_is_refused_leaves_no_trace(rt: HostRuntime) {
-    let lists = lists_of(&rt, "type func ->");
-    let mut function = function_of(&rt, &lists);
-    expect_five_accepted(&rt, &mut function);
-}
+/// Operators of a function without operands, each visited or attempted, and why each is refused.
+const REFUSALS: &[(Op<'static>, bool, &str)] = &[
+    (I32_ADD, false, NOTHING),
+    (I32_CONST, false, FAILED),
+    (I32_CONST, true, FAILED),
+];
 
 /// Has a frame open at first; and has failed behind a refused visit.
 fn expect_refusals<R: WasmModuleResources>(
@@ -133,19 +107,13 @@ fn expect_refusals<R: WasmModuleResources>(
     function: &mut FuncValidator<'static, '_, R>,
 ) {
     expect_error(rt, function.finish(9), OPEN, 9);
-    expect_error(rt, visit(rt, function, I32_ADD), NOTHING, 9);
-    expect(rt, function.is_failed());
-    expect_error(rt, visit(rt, function, I32_CONST), FAILED, 9);
-    expect_error(rt, attempt(rt, function, I32_CONST), FAILED, 9);
+    for (op, is_attempted, words) in REFUSALS {
+        let answer = check_in(rt, function, (op, 9), *is_attempted);
+        expect_error(rt, answer, words, 9);
+        expect(rt, function.is_failed());
+    }
     expect(rt, function.accepted().is_empty());
     expect_error(rt, function.finish(9), FAILED, 9);
-}
-
-#[test]
-fn a_function_that_has_failed_refuses_whatever_comes(rt: HostRuntime) {
-    let lists = lists_of(&rt, "type func ->");
-    let mut function = function_of(&rt, &lists);
-    expect_refusals(&rt, &mut function);
 }
 
 /// It takes three locals, and has none behind them.
@@ -159,11 +127,46 @@ fn expect_locals<R: WasmModuleResources>(rt: &impl Abort, function: &mut FuncVal
     expect(rt, function.get_local_type(3).is_none());
 }
 
+/// What is shown of a function.
+#[derive(Clone, Copy)]
+pub enum Shown {
+    /// That an attempt that is refused leaves no trace.
+    Attempt,
+    /// That it refuses whatever comes once it has failed.
+    Failure,
+    /// Its locals.
+    Locals,
+    /// That its end takes no memory.
+    End,
+}
+
+/// Shows this of a new function. One function owns it, for whatever is shown: what drops it is dear to prove.
+pub fn expect_function(rt: &(impl Abort + AllocGlobal + Print), shown: Shown) {
+    let lists = lists_of(rt, "type func ->");
+    let allocs = OperatorValidatorAllocations::new(rt.alloc());
+    let v = function_of(rt, &lists, 0, allocs);
+    let mut function = FuncValidator::new(rt.alloc(), v, &lists);
+    match shown {
+        Shown::Attempt => expect_five_accepted(rt, &mut function),
+        Shown::Failure => expect_refusals(rt, &mut function),
+        Shown::Locals => expect_locals(rt, &mut function),
+        Shown::End => expect_end(rt, &mut function),
+    }
+}
+
+#[test]
+fn an_attempt_that_is_refused_leaves_no_trace(rt: HostRuntime) {
+    expect_function(&rt, Shown::Attempt);
+}
+
+#[test]
+fn a_function_that_has_failed_refuses_whatever_comes(rt: HostRuntime) {
+    expect_function(&rt, Shown::Failure);
+}
+
 #[test]
 fn locals_of_a_function(rt: HostRuntime) {
-    let lists = lists_of(&rt, "type func ->");
-    let mut function = function_of(&rt, &lists);
-    expect_locals(&rt, &mut function);
+    expect_function(&rt, Shown::Locals);
 }
 
 /// The operators of a sum of the parameter and a constant.
@@ -182,7 +185,7 @@ const BEFORE: &[(usize, &[Option<ValType>])] = &[
 ];
 
 /// These are the types of the operands before an operator.
-fn expect_before<R: WasmModuleResources>(
+pub fn expect_before<R: WasmModuleResources>(
     rt: &(impl Abort + AllocGlobal),
     v: &mut OperatorValidator,
     lists: &R,
@@ -191,18 +194,17 @@ fn expect_before<R: WasmModuleResources>(
 )
     requires { IsStarting (R.context lists.now) (state v.old) }
 {
-    expect(rt, is_well_ordered(SUM) && place <= SUM.len());
+    expect(rt, is_well_ordered(SUM));
+    expect(rt, place <= SUM.len());
     match operands_before(rt.alloc(), v, SUM, lists, place) {
-        Ok(types) => expect(rt, types.as_slice() == expected),
+        Ok(types) => expect_same(rt, types.as_slice(), expected),
         Err((_, refusal)) => ample(rt, Err(refusal)),
     }
 }
 
 #[test]
 fn types_between_operators(rt: HostRuntime) {
-    let lists = lists_of(&rt, "type func i32 -> i32");
     for (place, expected) in BEFORE {
-        let mut v = new_function(&rt, &lists);
-        expect_before(&rt, &mut v, &lists, *place, expected);
+        expect_example(&rt, Example::Before(*place, expected));
     }
 }

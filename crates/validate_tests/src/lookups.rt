@@ -70,6 +70,22 @@ fn type_of_function<R: WasmModuleResources>(lists: &R, function: u32) -> Option<
     }
 }
 
+/// Whether a type that is declared is final.
+fn is_final(ty: Option<&SubType>) -> Option<bool> {
+    match ty {
+        Some(ty) => Some(ty.is_final),
+        None => None,
+    }
+}
+
+/// How many parameters a type has that is declared.
+fn count_of_params(ty: Option<&FuncType>) -> usize {
+    match ty {
+        Some(ty) => ty.params().len(),
+        None => 0,
+    }
+}
+
 /// What is known of the two functions, and of their types.
 fn expect_functions<R: WasmModuleResources>(rt: &impl Abort, lists: &R) {
     expect_same(rt, lists.type_index_of_function(0), Some(1));
@@ -79,26 +95,14 @@ fn expect_functions<R: WasmModuleResources>(rt: &impl Abort, lists: &R) {
         lists.type_id_of_function(1),
         Some(CoreTypeId::from_index(0)),
     );
-    expect(
-        rt,
-        !lists.is_function_referenced(0) && lists.is_function_referenced(1),
-    );
-    expect(
-        rt,
-        lists.has_function_exact_type(0) && !lists.has_function_exact_type(1),
-    );
-    let by_id = type_of_function(lists, 0).map(|ty| ty.is_final);
-    expect_same(rt, by_id, lists.sub_type_at(1).map(|ty| ty.is_final));
+    expect(rt, !lists.is_function_referenced(0));
+    expect(rt, lists.is_function_referenced(1));
+    expect(rt, lists.has_function_exact_type(0));
+    expect(rt, !lists.has_function_exact_type(1));
+    let by_id = is_final(type_of_function(lists, 0));
+    expect_same(rt, by_id, is_final(lists.sub_type_at(1)));
     expect(rt, lists.sub_type_at(5).is_none());
-    let params = lists.tag_at(0).map_or(0, |ty| ty.params().len());
-    expect_same(rt, params, 2);
-}
-
-#[test]
-fn each_list_is_looked_up(rt: HostRuntime) {
-    let lists = lists_of(&rt, MODULE);
-    expect_items(&rt, &lists);
-    expect_functions(&rt, &lists);
+    expect_same(rt, count_of_params(lists.tag_at(0)), 2);
 }
 
 /// Each check writes the canonical form, which is told without memory too.
@@ -128,13 +132,6 @@ fn expect_unknown<R: WasmModuleResources>(rt: &impl Abort, lists: &R) {
     expect_error(rt, answer, "unknown type 5: type index out of bounds", 6);
 }
 
-#[test]
-fn each_check_writes_the_canonical_form(rt: HostRuntime) {
-    let lists = lists_of(&rt, MODULE);
-    expect_canonical(&rt, &lists);
-    expect_unknown(&rt, &lists);
-}
-
 /// What is shared, and the tops of hierarchies.
 fn expect_tops<R: WasmModuleResources>(rt: &impl Abort, lists: &R) {
     let any = HeapType::Abstract {
@@ -154,8 +151,12 @@ fn expect_tops<R: WasmModuleResources>(rt: &impl Abort, lists: &R) {
 }
 
 #[test]
-fn tops_and_what_is_shared(rt: HostRuntime) {
+fn each_call_of_a_lookup(rt: HostRuntime) {
     let lists = lists_of(&rt, MODULE);
+    expect_items(&rt, &lists);
+    expect_functions(&rt, &lists);
+    expect_canonical(&rt, &lists);
+    expect_unknown(&rt, &lists);
     expect_tops(&rt, &lists);
 }
 

@@ -4,8 +4,8 @@ ghost use Rattle.std.specs.Prelude.{◌<◌, ◌^◌};
 ghost use Rattle.validate_stacks.specs.State.{IsStarting};
 ghost use Rattle.wasmparser_validate.specs.Start.{state};
 
+use crate::examples::{Example, expect_example};
 use crate::expectations::{expect, expect_same};
-use crate::modules::{lists_of, new_function};
 use std::process::Abort;
 use wasmparser_validate::operators::OperatorValidator;
 use wasmparser_validate::resources::{ModuleLists, WasmModuleResources};
@@ -13,7 +13,7 @@ use wasmparser_validate::types::{ContType, RefType, UnpackedIndex};
 use wasmparser_validate::visit::{BlockType, FrameKind, FrameStack, ModuleArity};
 
 /// Function 0 is of type 1, `[i32] -> [i64 i64]`; tags 0 and 1 are of types 0 and 1.
-const MODULE: &str = "type func ->\ntype func i32 -> i64 i64\nfn 1\ntag 0\ntag 1";
+pub const MODULE: &str = "type func ->\ntype func i32 -> i64 i64\nfn 1\ntag 0\ntag 1";
 
 /// What is asked of the module.
 fn expect_names<M: ModuleArity>(rt: &impl Abort, body: &M) {
@@ -21,8 +21,8 @@ fn expect_names<M: ModuleArity>(rt: &impl Abort, body: &M) {
     expect_same(rt, body.tag_type_arity(0), Some((0, 0)));
     expect_same(rt, body.tag_type_arity(1), Some((1, 2)));
     expect_same(rt, body.tag_type_arity(2), None);
-    let is_declared = |index| body.sub_type_at(index).is_some();
-    expect(rt, is_declared(1) && !is_declared(2));
+    expect(rt, body.sub_type_at(1).is_some());
+    expect(rt, body.sub_type_at(2).is_none());
     let label = Some((BlockType::FuncType(0), FrameKind::Block));
     expect_same(rt, body.label_block(0), label);
     expect_same(rt, body.label_block(1), None);
@@ -37,7 +37,7 @@ fn expect_one_frame<M: ModuleArity + FrameStack>(rt: &impl Abort, body: &M)
 }
 
 /// What a new body answers. A reference by its module's index has no id, and so names no type.
-fn expect_answers(rt: &impl Abort, v: &mut OperatorValidator, lists: &ModuleLists)
+pub fn expect_answers(rt: &impl Abort, v: &mut OperatorValidator, lists: &ModuleLists)
     requires { IsStarting (⟦<ModuleLists as WasmModuleResources>⟧.context lists.now) (state v.old) }
 {
     let body = v.with_resources(lists, 7);
@@ -51,6 +51,5 @@ fn expect_answers(rt: &impl Abort, v: &mut OperatorValidator, lists: &ModuleList
 
 #[test]
 fn what_a_new_body_answers(rt: HostRuntime) {
-    let lists = lists_of(&rt, MODULE);
-    expect_answers(&rt, &mut new_function(&rt, &lists), &lists);
+    expect_example(&rt, Example::Names);
 }

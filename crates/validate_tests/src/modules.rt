@@ -1,4 +1,4 @@
-//! Modules: what the first lines of a script declare; and functions of them.
+//! Modules: what the first lines of a script declare; and bodies that begin in them.
 
 ghost use Rattle.validate_stacks.specs.State.{IsStarting};
 ghost use Rattle.wasmparser_validate.specs.Start.{state};
@@ -6,9 +6,11 @@ ghost use Rattle.wasmparser_validate.specs.Start.{state};
 use crate::expectations::ample;
 use script_reader::{Script, read_script};
 use std::process::Abort;
+use validate_operators::begin_body;
 use wasmparser_validate::operators::{OperatorValidator, OperatorValidatorAllocations};
 use wasmparser_validate::resources::{ModuleDeclarations, ModuleLists, WasmModuleResources};
-use wasmparser_validate::types::{Flags, WasmFeatures};
+use wasmparser_validate::types::{Flags, ValType, WasmFeatures};
+use wasmparser_validate::visit::BodyKind;
 
 /// What these lines declare.
 pub fn declared(rt: &(impl Abort + AllocGlobal), lines: &str) -> ModuleDeclarations {
@@ -24,26 +26,43 @@ pub fn lists_of(rt: &(impl Abort + AllocGlobal), lines: &str) -> ModuleLists {
     ample(rt, ModuleLists::from_declarations(rt.alloc(), declarations))
 }
 
-/// A validator of a function of type 0, in these buffers.
-pub fn function_in<R: WasmModuleResources>(
+/// A validator of a function of this type, in these buffers.
+pub fn function_of<R: WasmModuleResources>(
     rt: &impl Abort,
     lists: &R,
+    ty: u32,
     allocs: OperatorValidatorAllocations,
 ) -> OperatorValidator
     ensures { IsStarting (R.context lists.now) (state result) }
 {
     ample(
         rt,
-        OperatorValidator::new_func(0, 0, &WasmFeatures::all(), lists, allocs),
+        OperatorValidator::new_func(ty, 0, &WasmFeatures::all(), lists, allocs),
     )
 }
 
-/// The same in new buffers.
-pub fn new_function<R: WasmModuleResources>(
-    rt: &(impl Abort + AllocGlobal),
+/// A validator of a constant expression of type i32, in these buffers.
+pub fn constant<R: WasmModuleResources>(
+    rt: &impl Abort,
     lists: &R,
+    allocs: OperatorValidatorAllocations,
 ) -> OperatorValidator
     ensures { IsStarting (R.context lists.now) (state result) }
 {
-    function_in(rt, lists, OperatorValidatorAllocations::new(rt.alloc()))
+    let _lists = lists;
+    let begun = OperatorValidator::new_const_expr(&WasmFeatures::all(), ValType::I32, allocs);
+    ample(rt, begun)
+}
+
+/// A validator of an expression of type i32, in these buffers, with every proposal on but tail calls.
+pub fn expression<R: WasmModuleResources>(
+    rt: &impl Abort,
+    lists: &R,
+    allocs: OperatorValidatorAllocations,
+) -> OperatorValidator
+    ensures { IsStarting (R.context lists.now) (state result) }
+{
+    let features = WasmFeatures::all().difference(WasmFeatures::TAIL_CALL);
+    let kind = BodyKind::Expression(ValType::I32);
+    ample(rt, begin_body(lists, &features, kind, 0, &[], allocs))
 }

@@ -120,17 +120,17 @@ fn begin<R: WasmModuleResources>(
 fn visit_by_row<R: WasmModuleResources>(
     stacks: &mut Stacks,
     lists: &R,
-    op: Op<'_>,
+    op: &Op<'_>,
 ) -> Result<(), Error>
     requires { MayVisit (R.context lists.now) stacks.old }
-    ensures { Meets (R.context lists.now) (λ cx. operator cx op.entry) 7 stacks.old.body result
+    ensures { Meets (R.context lists.now) (λ cx. operator cx op.now) 7 stacks.old.body result
         stacks.new.body }
 {
-    check_operator(stacks, lists, 7, &op)
+    check_operator(stacks, lists, 7, op)
 }
 
 /// One visit.
-fn visit<R: WasmModuleResources>(stacks: &mut Stacks, lists: &R, op: Op<'_>) -> Result<(), Error>
+fn visit<R: WasmModuleResources>(stacks: &mut Stacks, lists: &R, op: &Op<'_>) -> Result<(), Error>
     requires { MayVisit (R.context lists.now) stacks.old }
     ensures valid { IsValidBody (R.context lists.now) stacks.new.body }
     ensures kept { IsKept stacks.old.body stacks.new.body }
@@ -145,7 +145,7 @@ fn add_undone<R: WasmModuleResources>(
     text: &mut Written,
     stacks: &mut Stacks,
     lists: &R,
-    op: Op<'_>,
+    op: &Op<'_>,
 )
     requires idle { stacks.old.body.undone ≡ None }
     requires visit { MayVisit (R.context lists.now) stacks.old }
@@ -166,7 +166,7 @@ fn add_step<R: WasmModuleResources>(
     text: &mut Written,
     stacks: &mut Stacks,
     lists: &R,
-    op: Op<'_>,
+    op: &Op<'_>,
     is_undone: bool,
 )
     requires idle { stacks.old.body.undone ≡ None }
@@ -201,7 +201,7 @@ fn add_each<R: WasmModuleResources>(
         }
         let (line, behind) = left.split_once('\n').unwrap_or((left, ""));
         left = behind;
-        add_step(rt, text, stacks, lists, pair.0, line.starts_with("try "));
+        add_step(rt, text, stacks, lists, &pair.0, line.starts_with("try "));
     }
 }
 
@@ -244,16 +244,23 @@ const BEFORE: &[Op<'static>] = &[
     Op::Control(ControlOp::LocalSet(0)),
 ];
 
-/// Operators that are attempted behind them: what is set then, in order, and which part is open.
-const ATTEMPTS: &[(Op<'static>, &[u32], FrameKind)] = &[
-    (Op::Control(ControlOp::Else), &[], FrameKind::Else),
-    (Op::Control(ControlOp::End), &[], FrameKind::Block),
+/// An operator, what is set behind it, in order, which part is open, and whether that is dead.
+type Attempt = (Op<'static>, &'static [u32], (FrameKind, bool));
+
+/// Operators that are attempted behind them.
+const ATTEMPTS: &[Attempt] = &[
+    (Op::Control(ControlOp::Else), &[], (FrameKind::Else, false)),
+    (Op::Control(ControlOp::End), &[], (FrameKind::Block, false)),
     (
         Op::Control(ControlOp::LocalSet(2)),
         &[1, 0, 2],
-        FrameKind::If,
+        (FrameKind::If, true),
     ),
-    (Op::Control(ControlOp::Return), &[1, 0], FrameKind::If),
+    (
+        Op::Control(ControlOp::Return),
+        &[1, 0],
+        (FrameKind::If, true),
+    ),
 ];
 
 /// Both locals are there still.
@@ -275,9 +282,17 @@ fn visit_each<R: WasmModuleResources>(
     ensures visit { MayVisit (R.context lists.now) stacks.new }
 {
     for op in ops {
-        let answer = visit(stacks, lists, *op);
+        let answer = visit(stacks, lists, op);
         expect(rt, stacks.control_stack_height() > 0);
         ample(rt, answer);
+    }
+}
+
+/// What opened the innermost frame, or which part of it is open; and whether it is dead.
+fn innermost(stacks: &Stacks) -> Option<(FrameKind, bool)> {
+    match stacks.get_frame(0) {
+        Some(frame) => Some((frame.kind, frame.unreachable)),
+        None => None,
     }
 }
 
@@ -285,9 +300,7 @@ fn visit_each<R: WasmModuleResources>(
 fn expect_before(rt: &impl Abort, stacks: &Stacks) {
     expect_same(rt, stacks.inits().set_since(0), [1, 0].as_slice());
     expect_same(rt, stacks.heights(), (0, 2));
-    let frame = stacks.frame(0);
-    expect_same(rt, frame.map(|frame| frame.kind), Some(FrameKind::If));
-    expect_same(rt, frame.map(|frame| frame.unreachable), Some(true));
+    expect_same(rt, innermost(stacks), Some((FrameKind::If, true)));
 }
 
 /// Attempts an operator, and takes it back: then the order is the one before.
@@ -295,19 +308,19 @@ fn expect_undone<R: WasmModuleResources>(
     rt: &impl Abort,
     stacks: &mut Stacks,
     lists: &R,
-    attempt: &(Op<'static>, &[u32], FrameKind),
+    attempt: &Attempt,
 )
     requires idle { stacks.old.body.undone ≡ None }
     requires visit { MayVisit (R.context lists.now) stacks.old }
     ensures same { stacks.new.body ≡ stacks.old.body }
 {
-    let (op, order, kind) = *attempt;
+    let (op, order, frame) = attempt;
     expect_before(rt, stacks);
     stacks.begin_try_op();
     let answer = visit(stacks, lists, op);
     if answer.is_ok() {
-        expect_same(rt, stacks.inits().set_since(0), order);
-        expect_same(rt, stacks.frame(0).map(|frame| frame.kind), Some(kind));
+        expect_same(rt, stacks.inits().set_since(0), *order);
+        expect_same(rt, innermost(stacks), Some(*frame));
     }
     stacks.rollback();
     expect_before(rt, stacks);

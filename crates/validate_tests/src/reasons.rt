@@ -5,11 +5,11 @@
 ghost use Rattle.wasmparser_validate.specs.Start.{state};
 ghost use Rattle.wasmparser_validate.specs.State.{IsStarting};
 
+use crate::examples::{Example, expect_example};
 use crate::expectations::{expect_same, refused};
-use crate::modules::lists_of;
-use crate::visits::{I32_CONST, NOP, UNREACHABLE, begun_in, visit, visit_well};
+use crate::visits::{Call, I32_CONST, NOP, UNREACHABLE, visit_by, visit_well};
 use std::process::Abort;
-use wasmparser_validate::operators::{OperatorValidator, OperatorValidatorAllocations};
+use wasmparser_validate::operators::OperatorValidator;
 use wasmparser_validate::resources::WasmModuleResources;
 use wasmparser_validate::types::{Gate, HeapType, Refusal, UnpackedIndex, ValType};
 use wasmparser_validate::visit::{
@@ -33,7 +33,7 @@ const CUT: BrTable<'static> = BrTable {
 };
 
 /// An operator, the one behind it, and why that is refused: `None` where no rule of an operator says so.
-type Row = (Op<'static>, Op<'static>, Option<Refusal>, &'static str);
+pub type Row = (Op<'static>, Op<'static>, Option<Refusal>, &'static str);
 
 const ROWS: &[Row] = &[
     (
@@ -106,7 +106,7 @@ const ROWS: &[Row] = &[
 ];
 
 /// The second operator of a row is refused behind the first.
-fn expect_row<R: WasmModuleResources>(
+pub fn expect_row<R: WasmModuleResources>(
     rt: &impl Abort,
     v: &mut OperatorValidator,
     lists: &R,
@@ -114,9 +114,9 @@ fn expect_row<R: WasmModuleResources>(
 )
     requires { IsStarting (R.context lists.now) (state v.old) }
 {
-    let (first, second, reason, text) = *row;
+    let (first, second, reason, text) = row;
     visit_well(rt, v, lists, first);
-    let refusal = refused(rt, visit(v, lists, second), text);
+    let refusal = refused(rt, visit_by(v, lists, second, Call::Visitor), text);
     expect_same(
         rt,
         refusal.reason().map(Refusal::wording),
@@ -127,9 +127,7 @@ fn expect_row<R: WasmModuleResources>(
 /// Each row in a new body.
 #[test]
 fn reasons_of_refusals(rt: HostRuntime) {
-    let lists = lists_of(&rt, "memory");
     for row in ROWS {
-        let allocs = OperatorValidatorAllocations::new(rt.alloc());
-        expect_row(&rt, &mut begun_in(&rt, &lists, allocs), &lists, row);
+        expect_example(&rt, Example::Refused(row));
     }
 }

@@ -122,7 +122,10 @@ pub fn has_rising_heights<S: Seen>(seen: &S) -> bool {
     let (operands, frames) = seen.heights();
     let mut above = operands;
     for depth in 0..frames {
-        let height = seen.frame(depth).map_or(usize::MAX, |frame| frame.height);
+        let height = match seen.frame(depth) {
+            Some(frame) => frame.height,
+            None => usize::MAX,
+        };
         if height > above {
             return false;
         }

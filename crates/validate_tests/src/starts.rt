@@ -8,15 +8,15 @@ ghost use Rattle.wasmparser_validate.specs.Start.{state};
 use crate::answers::Step;
 use crate::bodies::{Way, expect_bodies};
 use crate::counted::expect_runs;
-use crate::expectations::{ample, expect, expect_error};
-use crate::modules::{function_in, lists_of, new_function};
+use crate::examples::{Example, expect_example, expect_example_in};
+use crate::expectations::{ample, expect, expect_error, expect_same};
+use crate::modules::lists_of;
 use crate::visits::Call;
-use std::mem;
 use std::process::Abort;
 use wasmparser_validate::operators::{
     Frame, OperatorValidator, OperatorValidatorAllocations, check_ops,
 };
-use wasmparser_validate::resources::{ModuleLists, WasmModuleResources};
+use wasmparser_validate::resources::WasmModuleResources;
 use wasmparser_validate::types::{Flags, ValType, WasmFeatures};
 use wasmparser_validate::visit::{
     BlockType, BodyKind, ControlOp, FrameKind, NumericOp, Op, has_module_immediates,
@@ -25,56 +25,35 @@ use wasmparser_validate::visit::{
 
 const OVER: &str = "too many locals: locals exceed maximum";
 
-/// The buffers, which are new ones then.
-fn taken(
-    rt: &impl AllocGlobal,
-    used: &mut OperatorValidatorAllocations,
-) -> OperatorValidatorAllocations {
-    mem::replace(used, OperatorValidatorAllocations::new(rt.alloc()))
-}
-
 /// The innermost frame is a block of this type.
 fn expect_label(rt: &impl Abort, v: &OperatorValidator, ty: BlockType) {
-    expect(rt, v.jump(0) == Some((ty, FrameKind::Block)));
+    expect_same(rt, v.jump(0), Some((ty, FrameKind::Block)));
 }
+
+/// The frame of a function of type 3.
+const FIRST: &Frame = &Frame {
+    kind: FrameKind::Block,
+    block_type: BlockType::FuncType(3),
+    height: 0,
+    unreachable: false,
+    init_height: 0,
+};
 
 /// One frame is open, of a function of type 3, which has no parameters.
-fn expect_start(rt: &impl Abort, v: &OperatorValidator) {
-    let frame = Frame {
-        kind: FrameKind::Block,
-        block_type: BlockType::FuncType(3),
-        height: 0,
-        unreachable: false,
-        init_height: 0,
-    };
-    expect(
-        rt,
-        v.get_frame(0) == Some(&frame) && v.get_frame(1).is_none(),
-    );
-    expect(rt, v.peek_operand_at(0).is_none() && v.jump(1).is_none());
+pub fn expect_start(rt: &impl Abort, v: &OperatorValidator) {
+    expect(rt, v.get_frame(0) == Some(FIRST));
+    expect(rt, v.get_frame(1).is_none());
+    expect(rt, v.peek_operand_at(0).is_none());
+    expect(rt, v.jump(1).is_none());
     expect_label(rt, v, BlockType::FuncType(3));
-    expect(
-        rt,
-        v.locals().len_locals() == 0 && v.features() == WasmFeatures::all(),
-    );
-    expect(rt, !v.is_pending() && v.can_attempt());
-}
-
-/// A function of type 3 begins so, in these buffers.
-fn expect_function(rt: &(impl Abort + AllocGlobal), used: &mut OperatorValidatorAllocations) {
-    let lists = lists_of(
-        rt,
-        "type func i32 ->\ntype func -> i32\ntype struct\ntype func ->",
-    );
-    let allocs = taken(rt, used);
-    let begun = OperatorValidator::new_func(3, 0, &WasmFeatures::all(), &lists, allocs);
-    let v = ample(rt, begun);
-    expect_start(rt, &v);
-    *used = v.into_allocations();
+    expect_same(rt, v.locals().len_locals(), 0);
+    expect(rt, v.features() == WasmFeatures::all());
+    expect(rt, !v.is_pending());
+    expect(rt, v.can_attempt());
 }
 
 /// Locals are declared up to the limit: those that are refused leave the others.
-fn declare_to_the_limit<R: WasmModuleResources>(
+pub fn declare_to_the_limit<R: WasmModuleResources>(
     rt: &impl Abort,
     v: &mut OperatorValidator,
     lists: &R,
@@ -87,35 +66,14 @@ fn declare_to_the_limit<R: WasmModuleResources>(
     expect(rt, v.locals().len_locals() == 50_000);
 }
 
-/// The same in these buffers.
-fn expect_limit(rt: &(impl Abort + AllocGlobal), used: &mut OperatorValidatorAllocations) {
-    let lists = lists_of(rt, "type func ->");
-    let mut v = function_in(rt, &lists, taken(rt, used));
-    declare_to_the_limit(rt, &mut v, &lists);
-    *used = v.into_allocations();
-}
-
 /// The constant 7 and the end of the expression.
 const SEVEN: &[(Op<'static>, u64)] = &[
     (Op::Numeric(NumericOp::I32Const(7)), 0),
     (Op::Control(ControlOp::End), 1),
 ];
 
-/// A validator of a constant expression of type i32.
-fn constant(
-    rt: &impl Abort,
-    lists: &ModuleLists,
-    allocs: OperatorValidatorAllocations,
-) -> OperatorValidator
-    ensures { IsStarting (⟦<ModuleLists as WasmModuleResources>⟧.context lists.now) (state result) }
-{
-    let _lists = lists;
-    let begun = OperatorValidator::new_const_expr(&WasmFeatures::all(), ValType::I32, allocs);
-    ample(rt, begun)
-}
-
 /// The constant is accepted up to its end, and leaves one operand and no frame.
-fn expect_seven<R: WasmModuleResources>(
+pub fn expect_seven<R: WasmModuleResources>(
     rt: &(impl Abort + AllocGlobal),
     v: &mut OperatorValidator,
     lists: &R,
@@ -128,34 +86,24 @@ fn expect_seven<R: WasmModuleResources>(
         Ok(is_closed) => expect(rt, is_closed),
         Err((_, refusal)) => ample(rt, Err(refusal)),
     }
-    expect(rt, heights.as_slice() == [(1, 1), (1, 0)].as_slice());
-    expect(
-        rt,
-        v.operand_stack_height() == 1 && v.control_stack_height() == 0,
-    );
-}
-
-/// The same in these buffers.
-fn expect_constant(rt: &(impl Abort + AllocGlobal), used: &mut OperatorValidatorAllocations) {
-    let lists = lists_of(rt, "type func ->");
-    let mut v = constant(rt, &lists, taken(rt, used));
-    expect_seven(rt, &mut v, &lists);
-    *used = v.into_allocations();
+    expect_same(rt, heights.as_slice(), [(1, 1), (1, 0)].as_slice());
+    expect_same(rt, v.operand_stack_height(), 1);
+    expect_same(rt, v.control_stack_height(), 0);
 }
 
 #[test]
 fn a_function_begins_in_one_frame(rt: HostRuntime) {
-    expect_function(&rt, &mut OperatorValidatorAllocations::new(rt.alloc()));
+    expect_example(&rt, Example::Start);
 }
 
 #[test]
 fn locals_are_declared_up_to_the_limit(rt: HostRuntime) {
-    expect_limit(&rt, &mut OperatorValidatorAllocations::new(rt.alloc()));
+    expect_example(&rt, Example::Limit);
 }
 
 #[test]
 fn a_constant_expression(rt: HostRuntime) {
-    expect_constant(&rt, &mut OperatorValidatorAllocations::new(rt.alloc()));
+    expect_example(&rt, Example::Constant);
 }
 
 /// Each comes to the same in the buffers of the one before it, and the first in those of the last.
@@ -163,17 +111,17 @@ fn a_constant_expression(rt: HostRuntime) {
 fn worked_examples_in_used_buffers(rt: HostRuntime) {
     let mut used = OperatorValidatorAllocations::new(rt.alloc());
     for _round in 0..2 {
-        expect_function(&rt, &mut used);
+        expect_example_in(&rt, &mut used, Example::Start);
         expect_bodies(&rt, &mut used, Way::Each(Step::Visit(Call::Value)));
         expect_runs(&rt, &mut used);
-        expect_limit(&rt, &mut used);
-        expect_constant(&rt, &mut used);
+        expect_example_in(&rt, &mut used, Example::Limit);
+        expect_example_in(&rt, &mut used, Example::Constant);
     }
 }
 
 /// Where memory is wanting there are no locals, and the same call declares them once there is memory: which is said, for
 /// `tests/c/growths.c`.
-fn expect_the_same_call<R: WasmModuleResources>(
+pub fn expect_the_same_call<R: WasmModuleResources>(
     rt: &(impl Abort + Print),
     v: &mut OperatorValidator,
     lists: &R,
@@ -192,8 +140,7 @@ fn expect_the_same_call<R: WasmModuleResources>(
 
 #[test]
 fn locals_that_found_no_memory_are_declared_by_the_same_call(rt: HostRuntime) {
-    let lists = lists_of(&rt, "type func ->");
-    expect_the_same_call(&rt, &mut new_function(&rt, &lists), &lists);
+    expect_example(&rt, Example::SameCall);
 }
 
 /// The calls that begin a body in the buffers of the one before, which leaves nothing.

@@ -1,26 +1,23 @@
-//! Validators of bodies without locals, and single visits: by the value of the operator, by the visitor, by the visitor's
+//! Single visits: by the value of the operator, by the visitor, by the visitor's
 //! call of the operator's own name, and by the call of its group.
 
 ghost use Rattle.std.specs.Prelude.{◌≡◌, None};
 ghost use Rattle.validation_rules.specs.Operators.{operator};
 ghost use Rattle.validate_stacks.specs.AtOnce.{MeetsAtOnce};
 ghost use Rattle.validate_stacks.specs.Pops.{IsKept};
-ghost use Rattle.validate_stacks.specs.State.{IsStarting, IsValidBody};
+ghost use Rattle.validate_stacks.specs.State.{IsValidBody};
 ghost use Rattle.validate_stacks.specs.Visits.{MayVisit, Meets};
 ghost use Rattle.wasmparser_validate.specs.Start.{state, stacks_of};
 
 use crate::expectations::{ample, expect};
 use std::process::Abort;
-use validate_operators::begin_body;
-use wasmparser_validate::operators::{
-    OperatorValidator, OperatorValidatorAllocations, WasmProposalValidator,
-};
+use wasmparser_validate::operators::{OperatorValidator, WasmProposalValidator};
 use wasmparser_validate::resources::WasmModuleResources;
-use wasmparser_validate::types::{Error, Flags, ValType, WasmFeatures};
+use wasmparser_validate::types::Error;
 use wasmparser_validate::visit::{
-    ArrayOp, AtomicOp, BlockType, BodyKind, ContinuationOp, ControlOp, ConvertOp, ExceptionOp,
-    Exchange, MemoryOp, NumericOp, Op, OperatorChecks, ReferenceOp, SharedOp, StructOp, TableOp,
-    Update, VisitOperator,
+    ArrayOp, AtomicOp, BlockType, ContinuationOp, ControlOp, ConvertOp, ExceptionOp, Exchange,
+    MemoryOp, NumericOp, Op, OperatorChecks, ReferenceOp, SharedOp, StructOp, TableOp, Update,
+    VisitOperator,
 };
 
 pub const NOP: Op<'static> = Op::Control(ControlOp::Nop);
@@ -32,19 +29,6 @@ pub const I32_CONST: Op<'static> = Op::Numeric(NumericOp::I32Const(7));
 pub const I64_CONST: Op<'static> = Op::Numeric(NumericOp::I64Const(5));
 
 pub const BLOCK: Op<'static> = Op::Control(ControlOp::Block(BlockType::Empty));
-
-/// A validator of an expression of type i32 in these buffers, with every proposal on but tail calls.
-pub fn begun_in<R: WasmModuleResources>(
-    rt: &impl Abort,
-    lists: &R,
-    allocs: OperatorValidatorAllocations,
-) -> OperatorValidator
-    ensures { IsStarting (R.context lists.now) (state result) }
-{
-    let features = WasmFeatures::all().difference(WasmFeatures::TAIL_CALL);
-    let kind = BodyKind::Expression(ValType::I32);
-    ample(rt, begin_body(lists, &features, kind, 0, &[], allocs))
-}
 
 /// By which call an operator is visited.
 #[derive(Clone, Copy)]
@@ -143,19 +127,19 @@ fn check_in_halves<R: WasmModuleResources>(
 fn visit_by_row<R: WasmModuleResources>(
     v: &mut OperatorValidator,
     lists: &R,
-    op: Op<'_>,
+    op: &Op<'_>,
     call: Call,
 ) -> Result<(), Error>
     requires { MayVisit (R.context lists.now) (stacks_of v.old) }
-    ensures { Meets (R.context lists.now) (λ cx. operator cx op.entry) 7 (state v.old) result (state v.new) }
+    ensures { Meets (R.context lists.now) (λ cx. operator cx op.now) 7 (state v.old) result (state v.new) }
 {
     let mut visitor: WasmProposalValidator<'_, '_, R> = v.with_resources(lists, 7);
     match call {
-        Call::Value => visitor.check(op),
-        Call::Visitor => visitor.visit_operator(op),
-        Call::Name => visit_by_name(&mut visitor, op),
-        Call::Group => check_by_group(&mut visitor, op),
-        Call::Halves => check_in_halves(v, lists, &op),
+        Call::Value => visitor.check(*op),
+        Call::Visitor => visitor.visit_operator(*op),
+        Call::Name => visit_by_name(&mut visitor, *op),
+        Call::Group => check_by_group(&mut visitor, *op),
+        Call::Halves => check_in_halves(v, lists, op),
     }
 }
 
@@ -163,7 +147,7 @@ fn visit_by_row<R: WasmModuleResources>(
 pub fn visit_by<R: WasmModuleResources>(
     v: &mut OperatorValidator,
     lists: &R,
-    op: Op<'_>,
+    op: &Op<'_>,
     call: Call,
 ) -> Result<(), Error>
     requires { MayVisit (R.context lists.now) (stacks_of v.old) }
@@ -173,32 +157,19 @@ pub fn visit_by<R: WasmModuleResources>(
     visit_by_row(v, lists, op, call)
 }
 
-/// One visit, by the visitor.
-pub fn visit<R: WasmModuleResources>(
-    v: &mut OperatorValidator,
-    lists: &R,
-    op: Op<'_>,
-) -> Result<(), Error>
-    requires { MayVisit (R.context lists.now) (stacks_of v.old) }
-    ensures valid { IsValidBody (R.context lists.now) (state v.new) }
-    ensures kept { IsKept (state v.old) (state v.new) }
-{
-    visit_by(v, lists, op, Call::Visitor)
-}
-
 /// Visits an operator, which leaves a frame open.
 pub fn visit_well<R: WasmModuleResources>(
     rt: &impl Abort,
     v: &mut OperatorValidator,
     lists: &R,
-    op: Op<'_>,
+    op: &Op<'_>,
 )
     requires idle { (state v.old).undone ≡ None }
     requires visit { MayVisit (R.context lists.now) (stacks_of v.old) }
     ensures idle { (state v.new).undone ≡ None }
     ensures visit { MayVisit (R.context lists.now) (stacks_of v.new) }
 {
-    let answer = visit(v, lists, op);
+    let answer = visit_by(v, lists, op, Call::Visitor);
     expect(rt, v.control_stack_height() > 0);
     ample(rt, answer);
 }
@@ -216,6 +187,6 @@ pub fn visit_each<R: WasmModuleResources>(
     ensures visit { MayVisit (R.context lists.now) (stacks_of v.new) }
 {
     for op in ops {
-        visit_well(rt, v, lists, *op);
+        visit_well(rt, v, lists, op);
     }
 }

@@ -69,7 +69,8 @@ enum tansyattic_status {
     TANSYATTIC_NOT_COVERED = 4,   /* nothing is refused, but there is a vector operator: those aren't covered */
     TANSYATTIC_NO_BODY = 5,       /* the module has no body for the function: it is imported, isn't there, or was
                                    * declared without bodies */
-    TANSYATTIC_NOT_LOADED = 6     /* there is no module, or no function */
+    TANSYATTIC_NOT_LOADED = 6,    /* there is no module, or no function */
+    TANSYATTIC_TOO_LARGE = 7      /* what the module declares is past a limit of this library: it may be valid */
 };
 
 enum tansyattic_kind {

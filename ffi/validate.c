@@ -1,5 +1,5 @@
 /* Checks each module that is named, with upstream's default proposals on, and prints what isn't accepted, and counts.
- * After `-f INDEX` it checks only the body of the function at that index. It ends with the greatest status, or with 7
+ * After `-f INDEX` it checks only the body of the function at that index. It ends with the greatest status, or with 8
  * if a file can't be read or a word isn't known.
  *
  *     gcc -O2 -o validate ffi/validate.c ffi/memory.c crates/tansyattic/out/libtansyattic.a
@@ -11,7 +11,7 @@
 #include <stdlib.h>
 #include <string.h>
 
-enum { FAILED = 7 };
+enum { FAILED = 8 };
 
 static const char *const kinds[] = {
     "func", "table init", "global init", "elem offset", "elem item", "data offset", "module",

@@ -20,7 +20,7 @@ from pathlib import Path
 import inlined
 from harness import ROOT, SOURCES, Tally, need
 from module_runs import DROPS, EMPTY, NOT_COVERED, SUM, VECTOR, cases
-from wasm import EXPORTS, FUNCTIONS, GLOBALS, IMPORTS, MEMORIES, TYPES, module, of_bodies
+from wasm import EXPORTS, FUNCTIONS, GLOBALS, IMPORTS, MEMORIES, TABLES, TYPES, module, of_bodies
 
 FFI = ROOT / "ffi"
 ONE_TYPE, ONE_IMPORT, ADDS = "01 60 00 00", "01 01 61 01 62 00 00", "00 6a 0b"
@@ -36,8 +36,9 @@ MODULES = {
     "global": module((GLOBALS, "01 7f 00 42 00 0b")),
     "shared": module((TYPES, ONE_TYPE), (FUNCTIONS, "01 00"), (MEMORIES, "01 02 01"), bodies=[EMPTY]),
     "unread": of_bodies("00 ff 0b"),
+    "tables": module((TABLES, "65" + " 70 00 00" * 101)),
 }
-WORDS = """sum.wasm refused.wasm imported.wasm several.wasm vector.wasm global.wasm shared.wasm unread.wasm text.wasm
+WORDS = """sum.wasm refused.wasm imported.wasm several.wasm vector.wasm global.wasm shared.wasm unread.wasm tables.wasm text.wasm
     nothing.wasm cut.wasm missing.wasm -f 0 imported.wasm -f 1 imported.wasm -f 2 imported.wasm -f 3 imported.wasm
     -f 0 shared.wasm text.wasm"""
 SAID = """\
@@ -58,6 +59,7 @@ global.wasm: 0 accepted, 1 refused, 0 not covered
 shared.wasm: module: shared memory must have maximum size (at offset 0x15)
 unread.wasm: func 0: illegal opcode: 0xff (at offset 0x17)
 unread.wasm: 0 accepted, 1 refused, 0 not covered
+tables.wasm: module: tables count exceeds limit of 100 (at offset 0x138)
 text.wasm: module: magic header not detected (at offset 0x0)
 nothing.wasm: module: unexpected end (at offset 0x0)
 cut.wasm: module: unexpected end (at offset 0x1f)
@@ -70,8 +72,8 @@ shared.wasm: module: shared memory must have maximum size (at offset 0x15)
 text.wasm: module: magic header not detected (at offset 0x0)
 """
 # Words, and the status that a program ends with.
-STATUSES = [(WORDS, 7), ("-f 3 imported.wasm", 5), ("vector.wasm sum.wasm", 4), ("several.wasm", 1),
-            ("unread.wasm refused.wasm", 2), ("-f", 7), ("-f x", 7), ("-f -1", 7), ("-f 4294967296", 7)]
+STATUSES = [(WORDS, 8), ("tables.wasm unread.wasm", 7), ("-f 3 imported.wasm", 5), ("vector.wasm sum.wasm", 4), ("several.wasm", 1),
+            ("unread.wasm refused.wasm", 2), ("-f", 8), ("-f x", 8), ("-f -1", 8), ("-f 4294967296", 8)]
 
 # An imported function, one that calls it with nothing on the stack, calls the next with an i64, and calls it in a block and
 # in dead code, and one [i64] -> []; and what comes of that if a function is called before each call.

@@ -22,11 +22,11 @@ from pathlib import Path
 
 import wasm
 from harness import ROOT, Tally, need, program_of, run, run_preloaded
-from module_runs import (ACCEPTED, DROPS, EMPTY, HELP, INVALID, JSON_RUNS, MISSING, ODD, REFUSED, RUNS, SAID_BY_HELP, SHARED,
+from module_runs import (ACCEPTED, DROPS, EMPTY, HELP, JSON_RUNS, MISSING, ODD, REFUSED, RUNS, SAID_BY_HELP, SHARED,
                          SUM, TEXT, UNNAMED, VALID, cases)
 
 PROGRAM = program_of("wasmcheck")
-STATUSES = {"valid": 0, "invalid": 1, "malformed": 2, "not covered": 4}
+STATUSES = {"valid": 0, "invalid": 1, "malformed": 2, "not covered": 4, "too large": 7}
 
 
 def try_run(wasmcheck, tally, name, words, given, status, printed, said=""):
@@ -151,10 +151,10 @@ def limits():
 
 
 def try_limit(wasmcheck, tally, name, make, most, text):
-    """A module that keeps a limit is valid, and one that is one past it is refused."""
+    """A module that keeps a limit is valid, and one that is one past it is too large."""
     kept, passed = (wasmcheck([], make(count)) for count in (most, most + 1))
-    printed = re.fullmatch(rf"module failed at offset 0x[0-9a-f]+: {text}\n{INVALID}", passed[1])
-    tally.expect(f"limit of {name}", kept == (0, VALID, "") and printed and passed[0] == 1, kept, passed)
+    printed = re.fullmatch(rf"module failed at offset 0x[0-9a-f]+: {text}\ntoo large\n", passed[1])
+    tally.expect(f"limit of {name}", kept == (0, VALID, "") and printed and passed[0] == 7, kept, passed)
 
 
 def write_files(room):

@@ -159,7 +159,7 @@ static void run_all(const char *name) {
     runs = wrong = 0;
     status = run(none);
     memcpy(ample, seen, sizeof *ample);
-    expect(name, &none, status, (0 <= status && status <= 2) || (is_of_modules && status == 4));
+    expect(name, &none, status, (0 <= status && status <= 2) || (is_of_modules && (status == 4 || status == 7)));
     for (long k = 1; k <= ample->requests; ++k) {
         is_met(name, (struct faults){.request = k});
         is_met(name, (struct faults){.requests_from = k});

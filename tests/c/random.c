@@ -219,7 +219,7 @@ static bool is_right_without_memory(const uint8_t *bytes) {
     call_in_any_order(&module, bytes);
     refused = 0;
     tansyattic_free(&module);
-    return answer.verdict.status <= TANSYATTIC_NOT_LOADED;
+    return answer.verdict.status <= TANSYATTIC_TOO_LARGE;
 }
 
 static volatile uint64_t current;

@@ -1,5 +1,6 @@
 -- What a status says of a module in a handle, by what there is to check.
-use Rattle.std.proofs.Common.{◌≡◌, ◌≢◌, ◌≤◌, ℕ, None, Some, inl, inr, sym, ◌∙◌, subst, arith}
+use Rattle.std.proofs.Common.{◌≡◌, ◌≢◌, ◌≤◌, ℕ, false, None, Some, inl, inr, nat_eq, eq-eqb, refl, sym, ◌∙◌, subst, arith}
+use borrow.Author.Tests.{clash}
 use Rattle.std.specs.Prelude.{◌⊎◌, ◌↔◌}
 use Rattle.module_check.proofs.Begun.{none_or_some}
 use Rattle.module_check.specs.FaultyModule.{HasInvalid, HasMalformed, IsMalformedFunction, IsRefusedFunction}
@@ -73,6 +74,31 @@ says_no s d = (λ z. not_zero s z d, λ z. not_three s z d)
 other_than : (s n : ℕ) → s ≡ n → n ≢ 1 → n ≢ 2 → (s ≡ 1) ⊎ (s ≡ 2) → ⊥
 other_than s n is a b d = elim d [ inl e ↦ a (sym is ∙ e) | inr e ↦ b (sym is ∙ e) ]
 
+-- a status isn't two numbers at once, and none is past those that are known
+apart : {a b s : ℕ} → s ≡ a → s ≡ b → nat_eq a b ≡ false → ⊥
+apart {a} {b} p q other = clash (sym other ∙ eq-eqb a b (sym p ∙ q))
+
+beyond_four : (s : ℕ) → s ≡ 5 → s ≤ 4 → ⊥
+beyond_four s e l = omega (arith, e, l)
+
+beyond_four_6 : (s : ℕ) → s ≡ 6 → s ≤ 4 → ⊥
+beyond_four_6 s e l = omega (arith, e, l)
+
+beyond_five : (s : ℕ) → s ≡ 6 → s ≤ 5 → ⊥
+beyond_five s e l = omega (arith, e, l)
+
+up_to_four : (s : ℕ) → s ≤ 4 → s ≤ 6
+up_to_four s l = omega (arith, l)
+
+up_to_five : (s : ℕ) → s ≤ 5 → s ≤ 6
+up_to_five s l = omega (arith, l)
+
+five_known : (s : ℕ) → s ≡ 5 → s ≤ 6
+five_known s e = omega (arith, e)
+
+six_known : (s : ℕ) → s ≡ 6 → s ≤ 6
+six_known s e = omega (arith, e)
+
 module _ (o : MaybeKept) (s : ℕ) (v : ModuleVerdict) where
   module _ (m : LoadedModule) (is : OnHeld o (λ h. h ≡ Whole m)) where
     on_whole : (P : LoadedModule → Type 0) → P m → OnModule o P
@@ -93,8 +119,8 @@ module _ (o : MaybeKept) (s : ℕ) (v : ModuleVerdict) where
       uncovered = λ four. on_whole (λ n. IsUncoveredFunction n function) (uncovered four);
       reported = λ other _. reported other;
       missing = (λ five. on_held o (Whole m) is (λ h. HasNoBody h function) (missing.0 five), λ none. missing.1 (of_held o (Whole m) is (λ h. HasNoBody h function) none));
-      none = (λ six. absurd (omega (arith, six, known)), λ none. absurd (has_module none));
-      known = omega (arith, known);
+      none = (λ six. absurd (beyond_five s six known), λ none. absurd (has_module none));
+      known = up_to_five s known;
     }
 
     pub module_checked : (s ≡ 0 → IsValid m) → (SaysNo s → ¬ IsAcceptedModule m) → (s ≡ 1 → HasInvalid m) → (s ≡ 2 → HasMalformed m) → (s ≡ 4 → HasUncovered m) → (s ≢ 3 → total v ≡ item_count m) → s ≤ 4 → ModuleAnswer o s v
@@ -105,19 +131,19 @@ module _ (o : MaybeKept) (s : ℕ) (v : ModuleVerdict) where
       malformed = λ two. on_whole HasMalformed (malformed two);
       uncovered = λ four. on_whole HasUncovered (uncovered four);
       counted = λ enough. of_whole o m is (λ n. total v ≡ item_count n) (counted enough);
-      missing = (λ five. absurd (omega (arith, five, known)), λ none. absurd (has_bodies none));
-      none = (λ six. absurd (omega (arith, six, known)), λ none. absurd (has_module none));
-      known = omega (arith, known);
+      missing = (λ five. absurd (beyond_four s five known), λ none. absurd (has_bodies none));
+      none = (λ six. absurd (beyond_four_6 s six known), λ none. absurd (has_module none));
+      known = up_to_four s known;
     }
 
     pub next_checked : (start end : ℕ) → (s ≡ 0 → AreSafeFrom m start) → (s ≢ 0 → IsReported m start end v) → (s ≡ 0 → end ≡ start) → s ≤ 4 → NextAnswer o start end s v
     next_checked start end rest reported unmoved known = record {
       rest = λ z. on_whole (λ n. AreSafeFrom n start) (rest z);
       reported = λ other. of_whole o m is (λ n. IsReported n start end v) (reported other);
-      unmoved = λ d. elim d [ inl z ↦ unmoved z | inr e ↦ elim e [ inl five ↦ absurd (omega (arith, five, known)) | inr six ↦ absurd (omega (arith, six, known)) ] ];
-      missing = (λ five. absurd (omega (arith, five, known)), λ none. absurd (has_bodies none));
-      none = (λ six. absurd (omega (arith, six, known)), λ none. absurd (has_module none));
-      known = omega (arith, known);
+      unmoved = λ d. elim d [ inl z ↦ unmoved z | inr e ↦ elim e [ inl five ↦ absurd (beyond_four s five known) | inr six ↦ absurd (beyond_four_6 s six known) ] ];
+      missing = (λ five. absurd (beyond_four s five known), λ none. absurd (has_bodies none));
+      none = (λ six. absurd (beyond_four_6 s six known), λ none. absurd (has_module none));
+      known = up_to_four s known;
     }
 
   module _ (is : OnHeld o IsDeclared) (five : s ≡ 5) where
@@ -125,80 +151,80 @@ module _ (o : MaybeKept) (s : ℕ) (v : ModuleVerdict) where
     has_one none = not_both o none IsDeclared is
 
     neither : (s ≡ 1) ⊎ (s ≡ 2) → ⊥
-    neither = other_than s 5 five (λ e. omega (arith, e)) (λ e. omega (arith, e))
+    neither = other_than s 5 five (λ e. apart e refl refl) (λ e. apart e refl refl)
 
     pub body_missing : (function : ℕ) → Reports (Some (OfFunction function)) v → BodyAnswer o function s v
     body_missing function reported = record {
-      safe = λ z. absurd (omega (arith, z, five));
+      safe = λ z. absurd (apart z five refl);
       refused = λ d. absurd (neither d);
-      invalid = λ one. absurd (omega (arith, one, five));
-      malformed = λ two. absurd (omega (arith, two, five));
-      uncovered = λ four. absurd (omega (arith, four, five));
+      invalid = λ one. absurd (apart one five refl);
+      malformed = λ two. absurd (apart two five refl);
+      uncovered = λ four. absurd (apart four five refl);
       reported = λ _ _. reported;
       missing = (λ _. no_body o is function, λ _. five);
-      none = (λ six. absurd (omega (arith, six, five)), λ none. absurd (has_one none));
-      known = omega (arith, five);
+      none = (λ six. absurd (apart six five refl), λ none. absurd (has_one none));
+      known = five_known s five;
     }
 
     pub bodies_missing : ModuleAnswer o s v
     bodies_missing = record {
-      valid = λ z. absurd (omega (arith, z, five));
+      valid = λ z. absurd (apart z five refl);
       refused = λ d. absurd (neither d);
-      invalid = λ one. absurd (omega (arith, one, five));
-      malformed = λ two. absurd (omega (arith, two, five));
-      uncovered = λ four. absurd (omega (arith, four, five));
+      invalid = λ one. absurd (apart one five refl);
+      malformed = λ two. absurd (apart two five refl);
+      uncovered = λ four. absurd (apart four five refl);
       counted = λ _. of_declared o is (λ m. total v ≡ item_count m);
       missing = (λ _. is, λ _. five);
-      none = (λ six. absurd (omega (arith, six, five)), λ none. absurd (has_one none));
-      known = omega (arith, five);
+      none = (λ six. absurd (apart six five refl), λ none. absurd (has_one none));
+      known = five_known s five;
     }
 
     pub rest_missing : (start end : ℕ) → end ≡ start → NextAnswer o start end s v
     rest_missing start end same = record {
-      rest = λ z. absurd (omega (arith, z, five));
+      rest = λ z. absurd (apart z five refl);
       reported = λ _. of_declared o is (λ m. IsReported m start end v);
       unmoved = λ _. same;
       missing = (λ _. is, λ _. five);
-      none = (λ six. absurd (omega (arith, six, five)), λ none. absurd (has_one none));
-      known = omega (arith, five);
+      none = (λ six. absurd (apart six five refl), λ none. absurd (has_one none));
+      known = five_known s five;
     }
 
   module _ (is : HasNoModule o) (six : s ≡ 6) where
     neither_there : (s ≡ 1) ⊎ (s ≡ 2) → ⊥
-    neither_there = other_than s 6 six (λ e. omega (arith, e)) (λ e. omega (arith, e))
+    neither_there = other_than s 6 six (λ e. apart e refl refl) (λ e. apart e refl refl)
 
     pub no_module_of_body : (function : ℕ) → BodyAnswer o function s v
     no_module_of_body function = record {
-      safe = λ z. absurd (omega (arith, z, six));
+      safe = λ z. absurd (apart z six refl);
       refused = λ d. absurd (neither_there d);
-      invalid = λ one. absurd (omega (arith, one, six));
-      malformed = λ two. absurd (omega (arith, two, six));
-      uncovered = λ four. absurd (omega (arith, four, six));
+      invalid = λ one. absurd (apart one six refl);
+      malformed = λ two. absurd (apart two six refl);
+      uncovered = λ four. absurd (apart four six refl);
       reported = λ _ other. absurd (other six);
-      missing = (λ five. absurd (omega (arith, five, six)), λ none. absurd (not_both o is (λ h. HasNoBody h function) none));
+      missing = (λ five. absurd (apart five six refl), λ none. absurd (not_both o is (λ h. HasNoBody h function) none));
       none = (λ _. is, λ _. six);
-      known = omega (arith, six);
+      known = six_known s six;
     }
 
     pub no_module : ModuleAnswer o s v
     no_module = record {
-      valid = λ z. absurd (omega (arith, z, six));
+      valid = λ z. absurd (apart z six refl);
       refused = λ d. absurd (neither_there d);
-      invalid = λ one. absurd (omega (arith, one, six));
-      malformed = λ two. absurd (omega (arith, two, six));
-      uncovered = λ four. absurd (omega (arith, four, six));
+      invalid = λ one. absurd (apart one six refl);
+      malformed = λ two. absurd (apart two six refl);
+      uncovered = λ four. absurd (apart four six refl);
       counted = λ _. of_none o is (λ m. total v ≡ item_count m);
-      missing = (λ five. absurd (omega (arith, five, six)), λ none. absurd (not_both o is IsDeclared none));
+      missing = (λ five. absurd (apart five six refl), λ none. absurd (not_both o is IsDeclared none));
       none = (λ _. is, λ _. six);
-      known = omega (arith, six);
+      known = six_known s six;
     }
 
     pub no_rest : (start end : ℕ) → end ≡ start → NextAnswer o start end s v
     no_rest start end same = record {
-      rest = λ z. absurd (omega (arith, z, six));
+      rest = λ z. absurd (apart z six refl);
       reported = λ _. of_none o is (λ m. IsReported m start end v);
       unmoved = λ _. same;
-      missing = (λ five. absurd (omega (arith, five, six)), λ none. absurd (not_both o is IsDeclared none));
+      missing = (λ five. absurd (apart five six refl), λ none. absurd (not_both o is IsDeclared none));
       none = (λ _. is, λ _. six);
-      known = omega (arith, six);
+      known = six_known s six;
     }

@@ -3,12 +3,14 @@
 ghost use Rattle.std.specs.Prelude.{◌≡◌, ◌≢◌, ◌⊎◌, ◌≤◌, ◌<◌, ◌-◌, ◌^◌, ◌↔◌, ℕ, length, min, true, false, None, Some, IsOk, IfOk, IfErr, IfSome, MatchResult};
 ghost use Rattle.module_check.specs.FaultyModule.{HasInvalid, HasMalformed, IsMalformedFunction, IsRefusedFunction};
 ghost use Rattle.module_check.specs.Items.{item_count};
-ghost use Rattle.module_check.specs.Loaded.{IsAcceptedFunction, IsAcceptedModule, IsSafeFunction, IsValid};
+ghost use Rattle.module_check.specs.Loaded.{AreTooLarge, IsAcceptedFunction, IsAcceptedModule, IsSafeFunction, IsValid};
 ghost use Rattle.module_check.specs.UncoveredModule.{AreUncovered, HasUncovered, HasVectorIn, IsUncoveredFunction};
 ghost use Rattle.module_check.specs.Verdicts.{IsConsistent, Reports, SaysNo, total};
+ghost use Rattle.module_check.specs.declared.load_refusal.LoadRefusal.TheVariants.{Judged, TooLarge};
 ghost use Rattle.module_check.specs.declared.verdict.Item.TheVariants.{Function};
 ghost use Rattle.module_check.specs.declared.verdict.Verdict.TheVariants.{Accepted, NotCovered};
 ghost use Rattle.module_rules.specs.Features.{of_bits};
+ghost use Rattle.validate_types.specs.declared.error.Error.{Error};
 ghost use Rattle.c_api.specs.Answers.{BodyAnswer, ModuleAnswer, NextAnswer};
 ghost use Rattle.c_api.specs.Calls.{OnHeld, OfHeld, OnModule, OfModule, OnDeclared, HaveTheSame};
 ghost use Rattle.c_api.specs.Calls.{IsLoadedFrom, IsValidModuleOf, AreDeclaredFrom};
@@ -24,8 +26,8 @@ use crate::items::check_from;
 use crate::kept::Kept;
 use crate::shared::{HeldModule, SharedModule};
 use module_check::{
-    BodyBuffers, Item, LoadedDeclarations, LoadedModule, ModuleFeatures, ModuleVerdict, NO_BODY,
-    NOT_LOADED, OUT_OF_MEMORY, VALID, Verdict, check_module,
+    BodyBuffers, Item, LoadRefusal, LoadedDeclarations, LoadedModule, ModuleFeatures,
+    ModuleVerdict, NO_BODY, NOT_LOADED, OUT_OF_MEMORY, TOO_LARGE, VALID, check_module,
 };
 use std::alloc::Global;
 use std::sync::Arc;
@@ -39,41 +41,64 @@ pub(crate) fn status_of(verdict: &ModuleVerdict) -> u32
 
 /// Reads a module, of which these are all the bytes, and checks that what it declares is valid under these proposals:
 /// bits that stand for none say nothing.
-fn read<'a>(alloc: Global, bytes: &'a [u8], features: u32) -> Result<LoadedModule<'a>, Verdict>
+fn read<'a>(alloc: Global, bytes: &'a [u8], features: u32) -> Result<LoadedModule<'a>, LoadRefusal>
     ensures loaded { IfOk result (IsLoadedFrom bytes.now features) }
-    ensures refused { IfErr result (λ verdict. verdict ≢ Accepted) }
-    ensures uncovered { IfErr result (λ verdict. (offset : ℕ) → verdict ≡ NotCovered offset
+    ensures refused { IfErr result (λ refusal. refusal ≢ Judged Accepted) }
+    ensures uncovered { IfErr result (λ refusal. (offset : ℕ) → refusal ≡ Judged (NotCovered offset)
         → HasVectorIn (of_bits features) bytes.now) }
+    ensures too_large { IfErr result (λ refusal. (e : Error) → refusal ≡ TooLarge e → AreTooLarge bytes.now) }
 {
     LoadedModule::new(alloc, bytes, ModuleFeatures::of_bits(features))
+}
+
+/// Notes why a module isn't loaded.
+fn note_refusal(refusal: &LoadRefusal, text: &mut [u8], out: &mut ModuleVerdict)
+    requires consistent { IsConsistent (length text.old) out.old }
+    requires refused { refusal.now ≢ Judged Accepted }
+    ensures consistent { IsConsistent (length text.new) out.new }
+    ensures refused { out.new.status ≢ 0 }
+    ensures uncovered { out.new.status ≡ 4 → (out.old.status ≡ 4)
+        ⊎ ((offset : ℕ) × (refusal.now ≡ Judged (NotCovered offset))) }
+    ensures too_large { out.old.status ≡ 0 → out.new.status ≡ 7 → (e : Error) × (refusal.now ≡ TooLarge e) }
+    ensures known { out.old.status ≤ 4 → (out.new.status ≤ 4) ⊎ (out.new.status ≡ 7) }
+{
+    match refusal {
+        LoadRefusal::Judged(verdict) => out.note(verdict, None, text),
+        LoadRefusal::TooLarge(error) => {
+            out.report(TOO_LARGE, None, error.offset(), error.message(), text);
+        }
+    }
 }
 
 /// Checks a module that was read, or notes why it wasn't.
 fn check_read(
     alloc: Global,
-    read: &Result<LoadedModule<'_>, Verdict>,
+    read: &Result<LoadedModule<'_>, LoadRefusal>,
     text: &mut [u8],
     out: &mut ModuleVerdict,
 )
     requires consistent { IsConsistent (length text.old) out.old }
-    requires refused { IfErr read.now (λ verdict. verdict ≢ Accepted) }
+    requires refused { IfErr read.now (λ refusal. refusal ≢ Judged Accepted) }
     ensures consistent { IsConsistent (length text.new) out.new }
     ensures read { out.new.status ≡ 0 → IsOk read.now }
     ensures valid { out.new.status ≡ 0 → IfOk read.now IsValid }
     ensures uncovered { out.new.status ≡ 4 → (out.old.status ≡ 4)
-        ⊎ MatchResult read.now HasUncovered (λ verdict. (offset : ℕ) × (verdict ≡ NotCovered offset)) }
-    ensures known { out.old.status ≤ 4 → out.new.status ≤ 4 }
+        ⊎ MatchResult read.now HasUncovered (λ refusal. (offset : ℕ) × (refusal ≡ Judged (NotCovered offset))) }
+    ensures too_large { out.old.status ≡ 0 → out.new.status ≡ 7
+        → MatchResult read.now (λ m. ⊥) (λ refusal. (e : Error) × (refusal ≡ TooLarge e)) }
+    ensures known { out.old.status ≤ 4 → (out.new.status ≤ 4) ⊎ (out.new.status ≡ 7) }
 {
     match read {
         Ok(module) => check_module(module, &mut BodyBuffers::new(alloc), text, out),
-        Err(verdict) => out.note(verdict, None, text),
+        Err(refusal) => note_refusal(refusal, text, out),
     }
 }
 
 /// Checks a module, of which these are all the bytes, under these proposals: what it declares, each body and each
 /// constant expression. It writes the totals to `out`, and to `text` the text of the first finding of the gravest kind,
 /// cut to the room there. It answers the status: where that is 0, the module is valid; where it is 4, one of these has a
-/// vector operator behind accepted ones, or an expression has one at which it can't be read.
+/// vector operator behind accepted ones, or an expression has one at which it can't be read; where it is 7, what it declares
+/// is past a limit.
 pub fn validate(
     alloc: Global,
     bytes: &[u8],
@@ -85,7 +110,8 @@ pub fn validate(
     ensures consistent { IsConsistent (length text.new) out.new }
     ensures valid { result ≡ 0 → IsValidModuleOf bytes.now features }
     ensures uncovered { result ≡ 4 → AreUncovered (of_bits features) bytes.now }
-    ensures known { result ≤ 4 }
+    ensures too_large { result ≡ 7 → AreTooLarge bytes.now }
+    ensures known { (result ≤ 4) ⊎ (result ≡ 7) }
 {
     *out = ModuleVerdict::new();
     check_read(alloc, &read(alloc, bytes, features), text, out);
@@ -129,7 +155,7 @@ pub fn load(
     ensures loaded { result ≡ 0 → OnModule handle.new.held (IsLoadedFrom bytes.now features) }
     ensures unchanged { result ≢ 0 → handle.new.held ≡ handle.old.held }
     ensures uncovered { result ≡ 4 → HasVectorIn (of_bits features) bytes.now }
-    ensures known { result ≤ 4 }
+    ensures known { (result ≤ 4) ⊎ (result ≡ 7) }
 {
     *out = ModuleVerdict::new();
     match read(alloc, bytes, features) {
@@ -138,7 +164,7 @@ pub fn load(
                 out.report(OUT_OF_MEMORY, None, 0, "out of memory", text);
             }
         }
-        Err(verdict) => out.note(&verdict, None, text),
+        Err(refusal) => note_refusal(&refusal, text, out),
     }
     status_of(out)
 }
@@ -160,7 +186,7 @@ pub fn declare(
         OnDeclared h (AreDeclaredFrom bytes.now features)) }
     ensures unchanged { result ≢ 0 → handle.new.held ≡ handle.old.held }
     ensures uncovered { result ≡ 4 → HasVectorIn (of_bits features) bytes.now }
-    ensures known { result ≤ 4 }
+    ensures known { (result ≤ 4) ⊎ (result ≡ 7) }
 {
     *out = ModuleVerdict::new();
     match read_declarations(alloc, bytes, features) {
@@ -169,7 +195,7 @@ pub fn declare(
                 out.report(OUT_OF_MEMORY, None, 0, "out of memory", text);
             }
         }
-        Err(verdict) => out.note(&verdict, None, text),
+        Err(refusal) => note_refusal(&refusal, text, out),
     }
     status_of(out)
 }
@@ -179,10 +205,10 @@ fn read_declarations(
     alloc: Global,
     bytes: &[u8],
     features: u32,
-) -> Result<LoadedDeclarations, Verdict>
+) -> Result<LoadedDeclarations, LoadRefusal>
     ensures declared { IfOk result (AreDeclaredFrom bytes.now features) }
-    ensures refused { IfErr result (λ verdict. verdict ≢ Accepted) }
-    ensures uncovered { IfErr result (λ verdict. (offset : ℕ) → verdict ≡ NotCovered offset
+    ensures refused { IfErr result (λ refusal. refusal ≢ Judged Accepted) }
+    ensures uncovered { IfErr result (λ refusal. (offset : ℕ) → refusal ≡ Judged (NotCovered offset)
         → HasVectorIn (of_bits features) bytes.now) }
 {
     LoadedDeclarations::new(alloc, bytes, ModuleFeatures::of_bits(features))

@@ -8,7 +8,8 @@ ghost use Rattle.wasmparser_validate.specs.Start.{state};
 ghost use Rattle.wasmparser_validate.specs.State.{IsStarting, IsValidBody};
 
 use module_check::{
-    CheckError, CodeReader, LoadedModule, ModuleFeatures, OperatorLists, Verdict, operator_name,
+    CheckError, CodeReader, LoadRefusal, LoadedModule, ModuleFeatures, OperatorLists, Verdict,
+    operator_name,
 };
 use std::alloc::Global;
 use std::io::Read;
@@ -188,6 +189,7 @@ fn main(rt: HostRuntime) -> io::Result<()> {
     rt.reader().read_to_end(&mut bytes)?;
     match LoadedModule::new(rt.alloc(), &bytes, ModuleFeatures::DEFAULT) {
         Ok(module) => print_wanted(&rt, &module),
-        Err(verdict) => print_verdict(&rt, &verdict),
+        Err(LoadRefusal::Judged(verdict)) => print_verdict(&rt, &verdict),
+        Err(LoadRefusal::TooLarge(error)) => println!(rt; "{error}"),
     }
 }

@@ -1,5 +1,6 @@
 -- What is told by the first byte is what the bytes are.
 use Rattle.std.proofs.Common.{◌≡◌, ℕ, ◌+◌, List, [], ◌∷◌, Bool, true, false, Option, Some, None, suc, zero, ◌&&◌, refl, sym, ap, subst, ◌∙◌, get_or, arith, nat_eq, nat_lt, ◌<◌, ◌≤◌, ◌-◌, ◌^◌, drop, if◌then◌else◌, ℤ, pos, ◌-ℤ◌, ◌⊎◌, inl, inr, option_map}
+use borrow.Author.Tests.{clash}
 use Rattle.std.proofs.lemmas.Bool.{and_parts, eqb-true, ltb-true, lt-ltb, le-ltb, cases_lt}
 use Rattle.binary_operators.specs.Codes.{at, plain_ops, index_ops, block_ops, access_ops}
 use Rattle.binary_operators.specs.Immediates.{block_type, memarg, in_memory, in_indexed_memory}
@@ -115,7 +116,7 @@ test32_of code rest (Some OfNumeric) (Some (Eqz W32)) e f h = record {
   is_read = λ types. numeric_read types code rest (Eqz W32) e f;
   same_row = λ cx. refl;
 }
-test32_of code rest form op e f h = cc
+test32_of code rest form op e f h = absurd (clash h)
 
 compare32_of : (code : ℕ) (rest : List ℕ) (form : Option Form) (op : Option NumericOp) → from 0 forms code ≡ form → from 0x45 numeric_ops code ≡ op → is_compare32 form op ≡ true → BeginLike (code ∷ rest) (Numeric (IntegerComparison W32 Eq)) rest
 compare32_of code rest (Some OfNumeric) (Some (IntegerComparison W32 o)) e f h = record {
@@ -123,7 +124,7 @@ compare32_of code rest (Some OfNumeric) (Some (IntegerComparison W32 o)) e f h =
   is_read = λ types. numeric_read types code rest (IntegerComparison W32 o) e f;
   same_row = λ cx. refl;
 }
-compare32_of code rest form op e f h = cc
+compare32_of code rest form op e f h = absurd (clash h)
 
 compare64_of : (code : ℕ) (rest : List ℕ) (form : Option Form) (op : Option NumericOp) → from 0 forms code ≡ form → from 0x45 numeric_ops code ≡ op → is_compare64 form op ≡ true → BeginLike (code ∷ rest) (Numeric (IntegerComparison W64 Eq)) rest
 compare64_of code rest (Some OfNumeric) (Some (IntegerComparison W64 o)) e f h = record {
@@ -131,7 +132,7 @@ compare64_of code rest (Some OfNumeric) (Some (IntegerComparison W64 o)) e f h =
   is_read = λ types. numeric_read types code rest (IntegerComparison W64 o) e f;
   same_row = λ cx. refl;
 }
-compare64_of code rest form op e f h = cc
+compare64_of code rest form op e f h = absurd (clash h)
 
 binary32_of : (code : ℕ) (rest : List ℕ) (form : Option Form) (op : Option NumericOp) → from 0 forms code ≡ form → from 0x45 numeric_ops code ≡ op → is_binary32 form op ≡ true → BeginLike (code ∷ rest) (Numeric (IntegerBinary W32 Add)) rest
 binary32_of code rest (Some OfNumeric) (Some (IntegerBinary W32 o)) e f h = record {
@@ -139,7 +140,7 @@ binary32_of code rest (Some OfNumeric) (Some (IntegerBinary W32 o)) e f h = reco
   is_read = λ types. numeric_read types code rest (IntegerBinary W32 o) e f;
   same_row = λ cx. refl;
 }
-binary32_of code rest form op e f h = cc
+binary32_of code rest form op e f h = absurd (clash h)
 
 binary64_of : (code : ℕ) (rest : List ℕ) (form : Option Form) (op : Option NumericOp) → from 0 forms code ≡ form → from 0x45 numeric_ops code ≡ op → is_binary64 form op ≡ true → BeginLike (code ∷ rest) (Numeric (IntegerBinary W64 Add)) rest
 binary64_of code rest (Some OfNumeric) (Some (IntegerBinary W64 o)) e f h = record {
@@ -147,7 +148,7 @@ binary64_of code rest (Some OfNumeric) (Some (IntegerBinary W64 o)) e f h = reco
   is_read = λ types. numeric_read types code rest (IntegerBinary W64 o) e f;
   same_row = λ cx. refl;
 }
-binary64_of code rest form op e f h = cc
+binary64_of code rest form op e f h = absurd (clash h)
 
 small_unsigned : (bits i : ℕ) (bs : List ℕ) → i < 128 → i < 2 ^ bits → unsigned bits (i ∷ bs) ≡ Some (i, bs)
 small_unsigned bits i bs l fits =
@@ -202,7 +203,7 @@ made (Some f) m op bs h = ap (λ (o : Option Op). o >>= before bs) h
 
 of_access : (form : Option Form) → is_access form ≡ true → form ≡ Some OfAccess
 of_access (Some OfAccess) h = refl
-of_access form h = cc
+of_access form h = absurd (clash h)
 
 pub access_read : (code align offset : ℕ) (op : Op) → Access ≡ get_or kinds code Rare → align < 64 → offset < 128 → option_map (λ (f : MemArg → Op). f (near align offset)) (at code access_ops) ≡ Some (unplaced op) → (types : CanonicalTypes) (bs : List ℕ) → operator types (code ∷ align ∷ offset ∷ bs) ≡ Some (unplaced op, bs)
 unfolding is_common operator access_op

@@ -40,7 +40,7 @@ module _ (m : LoadedModule) where
   all_safe : (end : ℕ) → item_count m ≤ end → AreSafeBelow m end → IsSafeModule m
   all_safe end enough safe = record {
     functions = λ function own there.
-        let few = few_functions m.features (declarations m) m.valid in
+        let few = few_functions (declarations m) m.within in
         let place = expression_count m + (function - m.declared.imports.functions) in
         let counted = m.counted in
         let past : expression_count m ≤ place = omega arith in
@@ -55,6 +55,7 @@ module _ (m : LoadedModule) where
   valid end enough safe = record {
     is_module = m.read;
     declarations_valid = m.valid;
+    declarations_within = m.within;
     is_lookup = m.lookup;
     code_safe = all_safe end enough safe;
   }

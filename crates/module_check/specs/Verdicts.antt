@@ -1,7 +1,7 @@
 -- What a module's verdict says (the crate's own).
 use Rattle.std.specs.Prelude.{◌≡◌, ◌≢◌, ◌<◌, ◌≤◌, ℕ, ◌+◌, ◌-◌, ◌^◌, min, Option, Some, None}
 use Rattle.module_check.specs.declared.outcome.Outcome.{Outcome}
-use Rattle.module_check.specs.declared.outcome.Outcome.TheVariants.{Valid, Invalid, Unreadable}
+use Rattle.module_check.specs.declared.outcome.Outcome.TheVariants.{Valid, Invalid, Unreadable, TooLarge}
 use Rattle.module_check.specs.declared.outcome.Outcome.TheVariants.{Malformed as IsMalformed}
 use Rattle.module_check.specs.declared.outcome.Outcome.TheVariants.{NotCovered as IsNotCovered}
 use Rattle.module_check.specs.declared.outcome.Outcome.TheVariants.{OutOfMemory as IsOutOfMemory}
@@ -41,10 +41,11 @@ IsCovered v = (offset : ℕ) → v ≢ NotCovered offset
 abbrev pub weight : Outcome → ℕ
 weight Valid = 0
 weight IsNotCovered = 1
-weight Invalid = 2
-weight IsMalformed = 3
-weight Unreadable = 4
-weight IsOutOfMemory = 5
+weight TooLarge = 2
+weight Invalid = 3
+weight IsMalformed = 4
+weight Unreadable = 5
+weight IsOutOfMemory = 6
 
 -- its status
 abbrev pub status : Outcome → ℕ
@@ -54,6 +55,7 @@ status IsMalformed = 2
 status IsOutOfMemory = 3
 status IsNotCovered = 4
 status Unreadable = 5
+status TooLarge = 7
 
 -- the status of one verdict
 abbrev pub status_of : Verdict → ℕ

@@ -6,7 +6,7 @@ ghost use Rattle.module_check.specs.Refusals.{IsRefusedFor};
 
 use crate::operator_names::operator_name;
 use crate::verdict::CheckError;
-use module_rules::{ConstantContext, Fault, VisitName, check_constant_operator};
+use module_rules::{ConstantContext, RuleFault, VisitName, check_constant_operator};
 use std::alloc::Global;
 use validate_visit::{ControlOp, Op, ReferenceOp};
 
@@ -50,15 +50,15 @@ fn name_of(bytes: &[u8], op: &Op<'_>, offset: u64) -> Option<&'static str> {
 }
 
 /// The fault, with the name of the operator where it is one that is never constant: others say why already.
-fn with_name(fault: Fault, at: &ConstantPlace<'_>, op: &Op<'_>, offset: u64) -> Fault {
-    let Fault::NotConstant(None) = fault else {
+fn with_name(fault: RuleFault, at: &ConstantPlace<'_>, op: &Op<'_>, offset: u64) -> RuleFault {
+    let RuleFault::NotConstant(None) = fault else {
         return fault;
     };
     let Some(operator) = name_of(at.bytes, op, offset) else {
         return fault;
     };
     let suffix = visit_suffix(op);
-    Fault::NotConstant(Some(VisitName { operator, suffix }))
+    RuleFault::NotConstant(Some(VisitName { operator, suffix }))
 }
 
 /// Refuses an operator that isn't constant in this place, at its offset.
@@ -74,7 +74,7 @@ pub(crate) fn check_constant(
         Ok(()) => Ok(()),
         Err(fault) => {
             let named = with_name(fault, at, op, offset);
-            Err(CheckError::Refused(named.at(offset).refusal(at.alloc)))
+            Err(CheckError::Refused(named.at(offset).error(at.alloc)))
         }
     }
 }

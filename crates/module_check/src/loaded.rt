@@ -7,14 +7,17 @@ ghost use Rattle.binary_modules.specs.Modules.{IsModule};
 ghost use Rattle.module_rules.specs.Declarations.{declarations_of};
 ghost use Rattle.module_rules.specs.Lookup.{lookup_lists};
 ghost use Rattle.module_rules.specs.Validity.{IsValidModule, is_valid_module};
+ghost use Rattle.module_rules.specs.Within.{IsWithin};
 ghost use Rattle.validate_resources.specs.Kept.{declared_lists};
 ghost use Rattle.validate_resources.specs.Lists.{context_of, module_of};
+ghost use Rattle.module_check.specs.declared.load_refusal.LoadRefusal.TheVariants.{Judged, TooLarge};
 ghost use Rattle.module_check.specs.declared.verdict.Verdict.TheVariants.{Accepted};
 
 use crate::body::{BodyContext, check_body};
 use crate::buffers::BodyBuffers;
 use crate::code::CodeReader;
 use crate::constant::ConstantPlace;
+use crate::load_refusal::LoadRefusal;
 use crate::unbodied::LoadedDeclarations;
 use crate::verdict::Verdict;
 use binary_modules::{ConstantExpression, FunctionNames, Module, read_function_names, read_module};
@@ -27,7 +30,7 @@ use validate_resources::{ModuleLists, WasmModuleResources};
 use validate_types::Error;
 use validate_visit::BodyKind;
 
-/// A module that was read, with its bytes. What it declares is valid.
+/// A module that was read, with its bytes. What it declares is valid, and within the limits of this implementation.
 #[derive(Drop)]
 pub struct LoadedModule<'a> {
     bytes: &'a [u8],
@@ -40,6 +43,7 @@ pub struct LoadedModule<'a> {
     names: Option<BinaryReader<'a>>,
     ghost read: { ∥ IsModule bytes.now (declarations_of declared) (bytes_left bodies.items) (map told expressions.items) ∥₁ },
     ghost valid: { IsValidModule features (declarations_of declared) },
+    ghost within: { IsWithin (declarations_of declared) },
     ghost counted: { declared.imports.functions + length bodies.items ≡ length declared.functions.items },
     ghost lookup: { module_of (lookup_lists (declarations_of declared)) ≡ Some (declared_lists lists) },
 }
@@ -49,7 +53,7 @@ impl<'a> LoadedModule<'a> {
     ghost use Rattle.binary_operators.specs.declared.types.CanonicalTypes.{CanonicalTypes};
     ghost use Rattle.module_check.specs.Constant.{may_stand};
     ghost use Rattle.module_check.specs.Loaded.{declarations, features_of, bytes_of, declared};
-    ghost use Rattle.module_check.specs.Loaded.{body_at, AreTypesOf};
+    ghost use Rattle.module_check.specs.Loaded.{body_at, AreTypesOf, AreTooLarge};
     ghost use Rattle.module_check.specs.Accepted.{IsAcceptedCode};
     ghost use Rattle.module_check.specs.Unbodied.{DeclaresInModule, declared_by, features_of as features_alone};
     ghost use Rattle.module_check.specs.Loaded.{IsAcceptedFunction, IsAcceptedExpression};
@@ -67,38 +71,41 @@ impl<'a> LoadedModule<'a> {
     ghost use Rattle.validate_types.specs.declared.error.Error.{Error};
 
     /// Reads a module, of which these are all the bytes, and checks that what it declares is valid under these
-    /// proposals. An error is never `Accepted`. It is `Malformed` if the bytes aren't those of a module, `Refused` if
-    /// what it declares isn't valid, or a constant expression has a vector operator other than `v128.const` and the
-    /// proposal of these is off, `NotCovered` with the offset of that operator if it is on, or `OutOfMemory`.
+    /// proposals, and within the limits. A verdict on it is never `Accepted`. It is `Malformed` if the bytes aren't those
+    /// of a module, `Refused` if what it declares isn't valid, or a constant expression has a vector operator other than
+    /// `v128.const` and the proposal of these is off, `NotCovered` with the offset of that operator if it is on, or
+    /// `OutOfMemory`. What is past a limit is told apart.
     pub fn new(
         alloc: Global,
         bytes: &'a [u8],
         features: ModuleFeatures,
-    ) -> Result<LoadedModule<'a>, Verdict>
+    ) -> Result<LoadedModule<'a>, LoadRefusal>
         ensures bytes { IfOk result (λ m. bytes_of m ≡ bytes.now) }
         ensures features { IfOk result (λ m. features_of m ≡ features) }
-        ensures refused { IfErr result (λ verdict. verdict ≢ Accepted) }
-        ensures proposal { IfErr result (λ verdict. (offset : ℕ) → verdict ≡ NotCovered offset
+        ensures refused { IfErr result (λ refusal. refusal ≢ Judged Accepted) }
+        ensures proposal { IfErr result (λ refusal. (offset : ℕ) → refusal ≡ Judged (NotCovered offset)
             → has (operator_features features) simd ≡ true) }
-        ensures uncovered { IfErr result (λ verdict. (offset : ℕ) → verdict ≡ NotCovered offset
+        ensures uncovered { IfErr result (λ refusal. (offset : ℕ) → refusal ≡ Judged (NotCovered offset)
             → BeginVector (drop offset bytes.now)) }
+        ensures too_large { IfErr result (λ refusal. (e : Error) → refusal ≡ TooLarge e → AreTooLarge bytes.now) }
     {
         match read_module(alloc, bytes) {
             Ok(module) => LoadedModule::of_module(alloc, bytes, features, module),
             Err(error) => {
                 let verdict = Verdict::of_read_error_in(alloc, error);
-                Err(verdict.under(&features.operator_features()).within(bytes))
+                let verdict = verdict.under(&features.operator_features()).within(bytes);
+                Err(LoadRefusal::Judged(verdict))
             }
         }
     }
 
-    /// The module that was read of these bytes, if what it declares is valid.
+    /// The module that was read of these bytes, if what it declares is valid, and within the limits.
     fn of_module(
         alloc: Global,
         bytes: &'a [u8],
         features: ModuleFeatures,
         module: Module<'a>,
-    ) -> Result<LoadedModule<'a>, Verdict>
+    ) -> Result<LoadedModule<'a>, LoadRefusal>
         requires read { ∥ IsModule bytes.now (declarations_of module.declared) (bytes_left module.bodies.items)
             (map told module.expressions.items) ∥₁ }
         requires counted { module.declared.imports.functions + length module.bodies.items
@@ -106,10 +113,11 @@ impl<'a> LoadedModule<'a> {
         ensures bytes { IfOk result (λ m. bytes_of m ≡ bytes.now) }
         ensures features { IfOk result (λ m. features_of m ≡ features) }
         ensures declared { IfOk result (λ m. declarations m ≡ declarations_of module.entry.declared) }
-        ensures refused { IfErr result (λ verdict. verdict ≢ Accepted) }
-        ensures invalid { IfErr result (λ v. (e : Error) → v ≡ Refused e
+        ensures refused { IfErr result (λ refusal. refusal ≢ Judged Accepted) }
+        ensures invalid { IfErr result (λ refusal. (e : Error) → refusal ≡ Judged (Refused e)
             → is_valid_module features (declarations_of module.entry.declared) ≡ false) }
-        ensures covered { IfErr result (λ v. (offset : ℕ) → v ≢ NotCovered offset) }
+        ensures too_large { IfErr result (λ refusal. (e : Error) → refusal ≡ TooLarge e → AreTooLarge bytes.now) }
+        ensures covered { IfErr result (λ refusal. (offset : ℕ) → refusal ≢ Judged (NotCovered offset)) }
     {
         let Module {
             declared,
@@ -129,7 +137,7 @@ impl<'a> LoadedModule<'a> {
                 expressions,
                 names,
             }),
-            Err(refusal) => Err(Verdict::of_refusal(refusal)),
+            Err(refusal) => Err(LoadRefusal::of_module(refusal)),
         }
     }
 
@@ -140,10 +148,11 @@ impl<'a> LoadedModule<'a> {
         self.bytes
     }
 
-    /// What it declares, which is valid.
+    /// What it declares, which is valid, and within the limits.
     pub fn declarations(&self) -> &DeclaredModule
         ensures declared { declarations_of result.now ≡ declarations self.now }
         ensures valid { IsValidModule (features_of self.now) (declarations_of result.now) }
+        ensures within { IsWithin (declarations_of result.now) }
     {
         &self.declared
     }

@@ -31,6 +31,9 @@ pub const NO_BODY: u32 = 5;
 /// The status where there is no module.
 pub const NOT_LOADED: u32 = 6;
 
+/// The status where what a module declares is past a limit of this implementation.
+pub const TOO_LARGE: u32 = 7;
+
 /// What the check of a body, of a module or of several modules comes to: of several it is the gravest.
 #[derive(Clone, Copy)]
 pub enum Outcome {
@@ -38,6 +41,8 @@ pub enum Outcome {
     Valid,
     /// Nothing is refused, and a vector operator isn't covered.
     NotCovered,
+    /// What it declares is past a limit of this implementation. Whether it is valid isn't told.
+    TooLarge,
     /// It isn't valid.
     Invalid,
     /// Its bytes aren't those of a module.
@@ -83,10 +88,11 @@ impl Outcome {
         match self {
             Outcome::Valid => 0,
             Outcome::NotCovered => 1,
-            Outcome::Invalid => 2,
-            Outcome::Malformed => 3,
-            Outcome::Unreadable => 4,
-            Outcome::OutOfMemory => 5,
+            Outcome::TooLarge => 2,
+            Outcome::Invalid => 3,
+            Outcome::Malformed => 4,
+            Outcome::Unreadable => 5,
+            Outcome::OutOfMemory => 6,
         }
     }
 
@@ -116,6 +122,7 @@ impl Outcome {
             Outcome::OutOfMemory => OUT_OF_MEMORY,
             Outcome::NotCovered => NOT_COVERED,
             Outcome::Unreadable => UNREADABLE,
+            Outcome::TooLarge => TOO_LARGE,
         }
     }
 
@@ -128,6 +135,7 @@ impl Outcome {
             Outcome::OutOfMemory => "out of memory",
             Outcome::NotCovered => "not covered",
             Outcome::Unreadable => "unreadable",
+            Outcome::TooLarge => "too large",
         }
     }
 }

@@ -4,11 +4,14 @@ ghost use Rattle.std.specs.Prelude.{◌≡◌, ◌≢◌, ◌≤◌, ◌<◌, �
 ghost use Rattle.module_rules.specs.Declarations.{declarations_of};
 ghost use Rattle.module_rules.specs.Lookup.{lookup_lists};
 ghost use Rattle.module_rules.specs.Validity.{IsValidModule};
+ghost use Rattle.module_rules.specs.Within.{IsWithin};
 ghost use Rattle.validate_resources.specs.Kept.{declared_lists};
 ghost use Rattle.validate_resources.specs.Lists.{module_of};
 ghost use Rattle.module_check.specs.EmptySections.{number_bytes, list_section, empty_segments, sections_behind};
+ghost use Rattle.module_check.specs.declared.load_refusal.LoadRefusal.TheVariants.{Judged};
 ghost use Rattle.module_check.specs.declared.verdict.Verdict.TheVariants.{Accepted};
 
+use crate::load_refusal::LoadRefusal;
 use crate::loaded::LoadedModule;
 use crate::verdict::Verdict;
 use binary_operators::{BinaryReader, CanonicalTypes, ReadError};
@@ -16,13 +19,14 @@ use module_rules::{DeclaredModule, ModuleFeatures};
 use std::alloc::{AllocError, Global};
 use validate_resources::ModuleLists;
 
-/// What a module declares that has no bodies yet, which is valid.
+/// What a module declares that has no bodies yet, which is valid, and within the limits of this implementation.
 #[derive(Drop)]
 pub struct LoadedDeclarations {
     features: ModuleFeatures,
     declared: DeclaredModule,
     lists: ModuleLists,
     ghost valid: { IsValidModule features (declarations_of declared) },
+    ghost within: { IsWithin (declarations_of declared) },
     ghost lookup: { module_of (lookup_lists (declarations_of declared)) ≡ Some (declared_lists lists) },
 }
 
@@ -167,22 +171,22 @@ impl LoadedDeclarations {
         alloc: Global,
         bytes: &[u8],
         features: ModuleFeatures,
-    ) -> Result<LoadedDeclarations, Verdict>
+    ) -> Result<LoadedDeclarations, LoadRefusal>
         ensures read { IfOk result (λ d. BeginsModule bytes.now (declared_by d)) }
         ensures features { IfOk result (λ d. features_of d ≡ features) }
-        ensures refused { IfErr result (λ verdict. verdict ≢ Accepted) }
-        ensures proposal { IfErr result (λ verdict. (offset : ℕ) → verdict ≡ NotCovered offset
+        ensures refused { IfErr result (λ refusal. refusal ≢ Judged Accepted) }
+        ensures proposal { IfErr result (λ refusal. (offset : ℕ) → refusal ≡ Judged (NotCovered offset)
             → has (operator_features features) simd ≡ true) }
-        ensures uncovered { IfErr result (λ verdict. (offset : ℕ) → verdict ≡ NotCovered offset
+        ensures uncovered { IfErr result (λ refusal. (offset : ℕ) → refusal ≡ Judged (NotCovered offset)
             → BeginVector (drop offset bytes.now)) }
     {
         let Ok(whole) = with_sections(alloc, bytes, counts_of(bytes)) else {
-            return Err(Verdict::OutOfMemory);
+            return Err(LoadRefusal::Judged(Verdict::OutOfMemory));
         };
         match LoadedDeclarations::of_whole(alloc, &whole, features) {
             Ok(declarations) => Ok(declarations),
             // Where a section is longer than these bytes, what stands behind them may begin with that prefix.
-            Err(verdict) => Err(verdict.within(bytes)),
+            Err(refusal) => Err(refusal.within(bytes)),
         }
     }
 
@@ -191,16 +195,16 @@ impl LoadedDeclarations {
         alloc: Global,
         whole: &[u8],
         features: ModuleFeatures,
-    ) -> Result<LoadedDeclarations, Verdict>
+    ) -> Result<LoadedDeclarations, LoadRefusal>
         ensures read { IfOk result (λ d. DeclaresInModule whole.now (declared_by d)) }
         ensures features { IfOk result (λ d. features_of d ≡ features) }
-        ensures refused { IfErr result (λ verdict. verdict ≢ Accepted) }
-        ensures proposal { IfErr result (λ verdict. (offset : ℕ) → verdict ≡ NotCovered offset
+        ensures refused { IfErr result (λ refusal. refusal ≢ Judged Accepted) }
+        ensures proposal { IfErr result (λ refusal. (offset : ℕ) → refusal ≡ Judged (NotCovered offset)
             → has (operator_features features) simd ≡ true) }
     {
         match LoadedModule::new(alloc, whole, features) {
             Ok(module) => Ok(module.into_declarations()),
-            Err(verdict) => Err(verdict),
+            Err(refusal) => Err(refusal),
         }
     }
 
@@ -211,6 +215,7 @@ impl LoadedDeclarations {
         lists: ModuleLists,
     ) -> LoadedDeclarations
         requires valid { IsValidModule features (declarations_of declared) }
+        requires within { IsWithin (declarations_of declared) }
         requires lookup { module_of (lookup_lists (declarations_of declared)) ≡ Some (declared_lists lists) }
         ensures features { features_of result ≡ features }
         ensures declared { declared_by result ≡ declarations_of declared }
@@ -222,10 +227,11 @@ impl LoadedDeclarations {
         }
     }
 
-    /// What it declares, which is valid.
+    /// What it declares, which is valid, and within the limits.
     pub fn declarations(&self) -> &DeclaredModule
         ensures declared { declarations_of result.now ≡ declared_by self.now }
         ensures valid { IsValidModule (features_of self.now) (declarations_of result.now) }
+        ensures within { IsWithin (declarations_of result.now) }
     {
         &self.declared
     }

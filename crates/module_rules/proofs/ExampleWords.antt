@@ -1,5 +1,5 @@
 -- The words that examples are written in: proposals, types, and what a module declares.
-use Rattle.std.proofs.Common.{ℕ, ◌-◌, Bool, true, false, List, map, Some, None}
+use Rattle.std.proofs.Common.{ℕ, ◌-◌, zero, suc, Bool, true, false, List, [], ◌∷◌, ◌++◌, map, Some, None}
 use Rattle.validate_types.specs.Refs.{reference}
 use Rattle.validate_types.specs.declared.heap.AbstractHeapType.TheVariants.{Func as AnyFunc, Extern as AnyExtern}
 use Rattle.validate_types.specs.declared.heap.HeapType.{HeapType}
@@ -109,6 +109,11 @@ with_descriptor d s = record s { composite_type = record s.composite_type { desc
 
 abbrev pub describing : ℕ → SubType → SubType
 describing b s = record s { composite_type = record s.composite_type { describes_idx = Some (index b) } }
+
+-- type 0, and so many types, each below the one before
+abbrev pub chain : ℕ → List SubType
+chain zero = open_type (structs []) ∷ []
+chain (suc n) = chain n ++ below n (structs []) ∷ []
 
 -- ---- groups
 

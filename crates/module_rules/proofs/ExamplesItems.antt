@@ -105,11 +105,8 @@ funcrefs n = replicate n (a_table false false funcref (from 0) RefNull)
 two_tables_without : are_valid_tables (without reference_types) types 0 (funcrefs 2) ≡ false
 two_tables_without = refl
 
-most_tables : are_valid_tables every types 0 (funcrefs 100) ≡ true
-most_tables = refl
-
-too_many_tables : are_valid_tables every types 0 (funcrefs 101) ≡ false
-too_many_tables = refl
+two_tables : are_valid_tables every types 0 (funcrefs 2) ≡ true
+two_tables = refl
 
 -- ---- memories
 

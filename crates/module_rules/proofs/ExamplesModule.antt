@@ -113,9 +113,6 @@ another_data_count = refl
 no_data_count : is_valid_module every (record a_module { data_count = None }) ≡ true
 no_data_count = refl
 
-too_many_imports : is_valid_module every (record a_module { imports = record a_module.imports { functions = 1000000 } }) ≡ false
-too_many_imports = refl
-
 -- ---- exports
 
 abbrev exports : ModuleFeatures → List Exported → Bool

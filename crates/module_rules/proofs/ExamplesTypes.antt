@@ -10,7 +10,7 @@ use Rattle.module_rules.specs.declared.features.ModuleFeatures.{ModuleFeatures}
 use Rattle.module_rules.specs.declared.items.RecGroup.{RecGroup}
 use Rattle.module_rules.proofs.ExampleWords.{every, without, func, shared_func, concrete, null, no_null}
 use Rattle.module_rules.proofs.ExampleWords.{constant, written, packed, functions, arrays, structs, continuations}
-use Rattle.module_rules.proofs.ExampleWords.{final, final_shared, open_type, below, shared_below}
+use Rattle.module_rules.proofs.ExampleWords.{final, final_shared, open_type, below, shared_below, chain}
 use Rattle.module_rules.proofs.ExampleWords.{a_group, alone, each_alone}
 
 -- the indices of so many types, each of which is named by its own
@@ -97,12 +97,6 @@ float_without_floats = refl
 
 reference_without : are_valid (without function_references) (final (functions (no_null func ∷ []) []) ∷ []) ≡ false
 reference_without = refl
-
-most_fields : are_valid every (final (structs (replicate 10000 packed)) ∷ []) ≡ true
-most_fields = refl
-
-too_many_fields : are_valid every (final (structs (replicate 10001 packed)) ∷ []) ≡ false
-too_many_fields = refl
 
 -- ---- continuations (a proposal, "Stack Switching")
 
@@ -236,16 +230,5 @@ not_matched = refl
 
 -- ---- chains of supertypes
 
--- type 0, and so many types, each below the one before
-abbrev chain : ℕ → List SubType
-chain zero = open_type (structs []) ∷ []
-chain (suc n) = chain n ++ below n (structs []) ∷ []
-
 depth : subtyping_depth (chain 3) 3 ≡ 3
 depth = refl
-
-deepest : are_valid every (chain 63) ≡ true
-deepest = refl
-
-too_deep : are_valid every (chain 64) ≡ false
-too_deep = refl

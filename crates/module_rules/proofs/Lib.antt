@@ -10,3 +10,4 @@ mod ExamplesTypes
 mod ExamplesDescriptors
 mod ExamplesItems
 mod ExamplesModule
+mod ExamplesLimits

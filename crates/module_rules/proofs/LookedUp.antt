@@ -44,14 +44,6 @@ all-weaker p q w (x ∷ xs) h =
     let a = and_parts (p x) _ h in
     and_from _ _ (w x a.0) (all-weaker p q w xs a.1)
 
--- the same beside an index, of items that pass another test besides
-pub numbered-weaker : {X : Type 0} (p r : ℕ × X → Bool) (q : X → Bool) → ((k : ℕ) (x : X) → p (k, x) ≡ true → q x ≡ true → r (k, x) ≡ true) → (n : ℕ) (xs : List X) → list_all p (enumerate_from n xs) ≡ true → list_all q xs ≡ true → list_all r (enumerate_from n xs) ≡ true
-numbered-weaker p r q w n [] h g = refl
-numbered-weaker p r q w n (x ∷ xs) h g =
-    let a = and_parts (p (n, x)) _ h in
-    let b = and_parts (q x) _ g in
-    and_from _ _ (w n x a.0 b.0) (numbered-weaker p r q w (n + 1) xs a.1 b.1)
-
 -- without the index
 pub unnumbered : {X : Type 0} (p : ℕ × X → Bool) (q : X → Bool) → ((k : ℕ) (x : X) → p (k, x) ≡ true → q x ≡ true) → (n : ℕ) (xs : List X) → list_all p (enumerate_from n xs) ≡ true → list_all q xs ≡ true
 unnumbered p q w n [] h = refl

@@ -1,5 +1,5 @@
 -- The exports of a module (WebAssembly core specification, "Modules": exports).
-use Rattle.std.specs.Prelude.{ℕ, Bool, true, List, [], ◌∷◌, ◌&&◌, ◌||◌, not, nat_lt, nat_le, length, map}
+use Rattle.std.specs.Prelude.{ℕ, Bool, true, List, [], ◌∷◌, ◌&&◌, ◌||◌, not, nat_lt, length, map}
 use Rattle.std.specs.Prelude.{Option, Some, None, slice_get}
 use Rattle.std.specs.List.{list_all, list_any}
 use Rattle.std.specs.Str.{bytes_eq}
@@ -9,7 +9,6 @@ use Rattle.module_rules.specs.declared.features.ModuleFeatures.{ModuleFeatures}
 use Rattle.module_rules.specs.declared.items.DeclaredGlobal.{DeclaredGlobal}
 use Rattle.module_rules.specs.declared.items.ExternalKind.{ExternalKind}
 use Rattle.module_rules.specs.declared.items.ExternalKind.TheVariants.{Func, Table, Memory, Global, Tag}
-use Rattle.module_rules.specs.declared.limits.TheConstants.{MAX_WASM_EXPORTS}
 
 -- so many items of a kind are there
 abbrev pub item_count : Declarations → ExternalKind → ℕ
@@ -40,6 +39,5 @@ are_distinct (name ∷ names) = not (list_any (bytes_eq name) names) && are_dist
 
 abbrev pub are_valid_exports : ModuleFeatures → Declarations → Bool
 are_valid_exports features d =
-    nat_le (length d.exports) MAX_WASM_EXPORTS
-    && list_all (is_valid_export features d) d.exports
+    list_all (is_valid_export features d) d.exports
     && are_distinct (map (λ (e : Exported). e.name) d.exports)

@@ -1,6 +1,6 @@
 -- The functions and tags of a module, and its start function (WebAssembly core specification, "Modules":
 -- functions, tags, start function; "Tag Types").
-use Rattle.std.specs.Prelude.{ℕ, Bool, true, false, List, ◌&&◌, ◌||◌, ◌==◌, not, nat_lt, nat_le, length}
+use Rattle.std.specs.Prelude.{ℕ, Bool, true, false, List, ◌&&◌, ◌||◌, ◌==◌, not, nat_lt, length}
 use Rattle.std.specs.Prelude.{Option, Some, None, slice_get}
 use Rattle.std.specs.List.{list_all, enumerate_from}
 use Rattle.std.specs.Option.{option_and_then}
@@ -13,7 +13,6 @@ use Rattle.module_rules.specs.declared.features.ModuleFeatures.{ModuleFeatures}
 use Rattle.module_rules.specs.declared.items.DeclaredFunction.{DeclaredFunction}
 use Rattle.module_rules.specs.declared.items.DeclaredTag.{DeclaredTag}
 use Rattle.module_rules.specs.declared.items.Start.{Start}
-use Rattle.module_rules.specs.declared.limits.TheConstants.{MAX_WASM_FUNCTIONS, MAX_WASM_TAGS}
 
 -- what the type at an index takes and gives, if it is one of functions
 abbrev pub signature_at : List SubType → ℕ → Option Signature
@@ -28,11 +27,9 @@ is_valid_function features types imported i f =
     is_func_type (slice_get types f.type_index)
     && (not (nat_lt i imported && f.exact) || has features.operators custom_descriptors)
 
--- how many there are is a limit of an implementation
 abbrev pub are_valid_functions : ModuleFeatures → List SubType → ℕ → List DeclaredFunction → Bool
 are_valid_functions features types imported functions =
-    nat_le (length functions) MAX_WASM_FUNCTIONS
-    && list_all (λ (e : ℕ × DeclaredFunction). is_valid_function features types imported e.0 e.1)
+    list_all (λ (e : ℕ × DeclaredFunction). is_valid_function features types imported e.0 e.1)
     (enumerate_from 0 functions)
 
 -- ---- tags
@@ -46,10 +43,8 @@ abbrev pub is_valid_tag : ModuleFeatures → List SubType → DeclaredTag → Bo
 is_valid_tag features types t =
     has features.operators exceptions && is_tag_signature features (signature_at types t.func_type_idx)
 
--- how many there are is a limit of an implementation
 abbrev pub are_valid_tags : ModuleFeatures → List SubType → List DeclaredTag → Bool
-are_valid_tags features types tags =
-    nat_le (length tags) MAX_WASM_TAGS && list_all (is_valid_tag features types) tags
+are_valid_tags features types tags = list_all (is_valid_tag features types) tags
 
 -- ---- the start function
 

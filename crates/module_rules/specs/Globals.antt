@@ -1,5 +1,5 @@
 -- The globals of a module (WebAssembly core specification, "Global Types", and "Modules": globals, imports).
-use Rattle.std.specs.Prelude.{ℕ, Bool, List, ◌&&◌, ◌||◌, not, nat_lt, nat_le, length}
+use Rattle.std.specs.Prelude.{ℕ, Bool, List, ◌&&◌, ◌||◌, not, nat_lt, length}
 use Rattle.std.specs.List.{list_all, enumerate_from}
 use Rattle.validate_types.specs.Features.{has, shared_everything_threads, is_type_enabled}
 use Rattle.validate_types.specs.declared.types.SubType.{SubType}
@@ -9,7 +9,6 @@ use Rattle.module_rules.specs.Features.{operator_features}
 use Rattle.module_rules.specs.Types.{is_type_shared}
 use Rattle.module_rules.specs.declared.features.ModuleFeatures.{ModuleFeatures}
 use Rattle.module_rules.specs.declared.items.DeclaredGlobal.{DeclaredGlobal}
-use Rattle.module_rules.specs.declared.limits.TheConstants.{MAX_WASM_GLOBALS}
 
 module _ (features : ModuleFeatures) (types : List SubType) where
   -- its proposal is on, and the type that it names is there
@@ -32,5 +31,4 @@ module _ (features : ModuleFeatures) (types : List SubType) where
 
   abbrev pub are_valid_globals : ℕ → List DeclaredGlobal → Bool
   are_valid_globals imported globals =
-      nat_le (length globals) MAX_WASM_GLOBALS
-      && list_all (λ (e : ℕ × DeclaredGlobal). is_valid_global imported e.0 e.1) (enumerate_from 0 globals)
+      list_all (λ (e : ℕ × DeclaredGlobal). is_valid_global imported e.0 e.1) (enumerate_from 0 globals)

@@ -16,4 +16,6 @@ pub mod Segments
 pub mod Constants
 pub mod References
 pub mod Validity
+pub mod Within
+pub mod Judged
 pub mod Lookup

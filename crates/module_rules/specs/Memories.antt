@@ -1,12 +1,11 @@
 -- The memories of a module (WebAssembly core specification, "Memory Types", and "Modules": memories).
-use Rattle.std.specs.Prelude.{ℕ, Bool, true, List, ◌&&◌, ◌||◌, ◌==◌, not, nat_le, length, if◌then◌else◌}
+use Rattle.std.specs.Prelude.{ℕ, Bool, true, List, ◌&&◌, ◌||◌, ◌==◌, not, nat_le, length}
 use Rattle.std.specs.Prelude.{Option, Some, None, is_some}
 use Rattle.std.specs.List.{list_all}
 use Rattle.validate_types.specs.Features.{has, threads}
 use Rattle.module_rules.specs.Limits.{are_within, memory_bound}
 use Rattle.module_rules.specs.declared.features.ModuleFeatures.{ModuleFeatures}
 use Rattle.module_rules.specs.declared.items.DeclaredMemory.{DeclaredMemory}
-use Rattle.module_rules.specs.declared.limits.TheConstants.{MAX_WASM_MEMORIES}
 
 module _ (features : ModuleFeatures) where
   -- pages of 1 byte and of 2^16 may be set (a proposal, "Custom Page Sizes")
@@ -27,9 +26,9 @@ module _ (features : ModuleFeatures) where
       is_memory_enabled m && is_valid_page_size m.page_size_log2
       && are_within (memory_bound m.ty.memory64 m.page_size_log2) m.limits
 
-  -- several memories are of a proposal; how many is a limit of an implementation
-  abbrev pub max_memories : ℕ
-  max_memories = if features.multi_memory then MAX_WASM_MEMORIES else 1
+  -- several memories are of a proposal
+  abbrev pub may_be_so_many : ℕ → Bool
+  may_be_so_many memories = nat_le memories 1 || features.multi_memory
 
   abbrev pub are_valid_memories : List DeclaredMemory → Bool
-  are_valid_memories memories = nat_le (length memories) max_memories && list_all is_valid_memory memories
+  are_valid_memories memories = may_be_so_many (length memories) && list_all is_valid_memory memories

@@ -1,6 +1,6 @@
 -- The element and data segments of a module (WebAssembly core specification, "Modules": element segments,
 -- data segments). What their constant expressions are is a matter of its own.
-use Rattle.std.specs.Prelude.{ℕ, Bool, true, false, List, ◌&&◌, ◌==◌, nat_lt, nat_le, length}
+use Rattle.std.specs.Prelude.{ℕ, Bool, true, false, List, ◌&&◌, ◌==◌, nat_lt, length}
 use Rattle.std.specs.Prelude.{Option, Some, None, slice_get}
 use Rattle.std.specs.List.{list_all}
 use Rattle.validate_types.specs.Features.{has, bulk_memory}
@@ -23,8 +23,6 @@ use Rattle.module_rules.specs.declared.segments.ElementItems.{ElementItems}
 use Rattle.module_rules.specs.declared.segments.ElementItems.TheVariants.{Functions, Expressions}
 use Rattle.module_rules.specs.declared.segments.ElementKind.{ElementKind}
 use Rattle.module_rules.specs.declared.segments.ElementKind.TheVariants.{Passive, Active, Declared}
-use Rattle.module_rules.specs.declared.limits.TheConstants.{MAX_WASM_ELEMENT_SEGMENTS, MAX_WASM_DATA_SEGMENTS}
-use Rattle.module_rules.specs.declared.limits.TheConstants.{MAX_WASM_TABLE_ENTRIES}
 
 -- ---- element segments
 
@@ -33,7 +31,7 @@ abbrev pub item_type : ElementItems → RefType
 item_type (Functions fs) = non_null_reference (Abstract false Func)
 item_type (Expressions ty count) = ty
 
--- so many items; how many is a limit of an implementation
+-- so many items
 abbrev pub item_count : ElementItems → ℕ
 item_count (Functions fs) = length fs
 item_count (Expressions ty count) = count
@@ -59,13 +57,10 @@ abbrev pub is_valid_element : ModuleFeatures → List SubType → ℕ → List D
 is_valid_element features types functions tables e =
     are_valid_items features types functions e.items
     && is_valid_element_kind features types tables (item_type e.items) e.kind
-    && nat_le (item_count e.items) MAX_WASM_TABLE_ENTRIES
 
--- how many there are is a limit of an implementation
 abbrev pub are_valid_elements : ModuleFeatures → List SubType → ℕ → List DeclaredTable → List Element → Bool
 are_valid_elements features types functions tables elements =
-    nat_le (length elements) MAX_WASM_ELEMENT_SEGMENTS
-    && list_all (is_valid_element features types functions tables) elements
+    list_all (is_valid_element features types functions tables) elements
 
 -- ---- data segments
 
@@ -82,5 +77,5 @@ is_data_count n (Some said) = said.count == n
 
 abbrev pub are_valid_data : ModuleFeatures → ℕ → Option DataCount → List Data → Bool
 are_valid_data features memories count segments =
-    nat_le (length segments) MAX_WASM_DATA_SEGMENTS && is_data_count (length segments) count
+    is_data_count (length segments) count
     && list_all (λ (s : Data). is_valid_data_kind features memories s.kind) segments

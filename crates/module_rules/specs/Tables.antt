@@ -1,6 +1,5 @@
 -- The tables of a module (WebAssembly core specification, "Table Types", and "Modules": tables).
 use Rattle.std.specs.Prelude.{ℕ, Bool, true, false, List, ◌&&◌, ◌||◌, not, nat_lt, nat_le, length}
-use Rattle.std.specs.Prelude.{if◌then◌else◌}
 use Rattle.std.specs.List.{list_all, enumerate_from}
 use Rattle.validate_types.specs.Features.{has, reference_types, shared_everything_threads}
 use Rattle.validate_types.specs.Features.{function_references, is_ref_enabled}
@@ -17,7 +16,6 @@ use Rattle.module_rules.specs.declared.features.ModuleFeatures.{ModuleFeatures}
 use Rattle.module_rules.specs.declared.items.DeclaredTable.{DeclaredTable}
 use Rattle.module_rules.specs.declared.items.TableInit.{TableInit}
 use Rattle.module_rules.specs.declared.items.TableInit.TheVariants.{RefNull, Expr}
-use Rattle.module_rules.specs.declared.limits.TheConstants.{MAX_WASM_TABLES}
 
 -- every unshared function
 abbrev pub is_any_function : HeapType → Bool
@@ -61,12 +59,12 @@ is_valid_table features types imported i t =
     is_valid_table_type features types t
     && (nat_lt i imported || may_begin_so features t.ty.element_type t.init)
 
--- several tables are of a proposal; how many is a limit of an implementation
-abbrev pub max_tables : ModuleFeatures → ℕ
-max_tables features = if has features.operators reference_types then MAX_WASM_TABLES else 1
+-- several tables are of a proposal
+abbrev pub may_be_so_many : ModuleFeatures → ℕ → Bool
+may_be_so_many features tables = nat_le tables 1 || has features.operators reference_types
 
 abbrev pub are_valid_tables : ModuleFeatures → List SubType → ℕ → List DeclaredTable → Bool
 are_valid_tables features types imported tables =
-    nat_le (length tables) (max_tables features)
+    may_be_so_many features (length tables)
     && list_all (λ (e : ℕ × DeclaredTable). is_valid_table features types imported e.0 e.1)
     (enumerate_from 0 tables)

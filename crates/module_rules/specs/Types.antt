@@ -23,7 +23,6 @@ use Rattle.module_rules.specs.Features.{operator_features}
 use Rattle.module_rules.specs.Matching.{is_composite_below}
 use Rattle.module_rules.specs.declared.features.ModuleFeatures.{ModuleFeatures}
 use Rattle.module_rules.specs.declared.items.RecGroup.{RecGroup}
-use Rattle.module_rules.specs.declared.limits.TheConstants.{MAX_WASM_STRUCT_FIELDS, MAX_WASM_SUBTYPING_DEPTH}
 
 -- ---- composite types (Specification, "Composite Types")
 
@@ -44,12 +43,11 @@ abbrev pub may_stand_in : ModuleFeatures → List SubType → Bool → ValType �
 may_stand_in features types shared t =
     is_type_enabled (operator_features features) t && (not shared || is_type_shared types t)
 
--- the proposal of its kind is on; how many fields a struct has is a limit of an implementation
+-- the proposal of its kind is on
 abbrev pub is_kind_enabled : ModuleFeatures → CompositeInnerType → Bool
 is_kind_enabled features (Func f) = nat_le (length f.results) 1 || has features.operators multi_value
 is_kind_enabled features (Array a) = has features.operators gc
-is_kind_enabled features (Struct fields) =
-    has features.operators gc && nat_le (length fields) MAX_WASM_STRUCT_FIELDS
+is_kind_enabled features (Struct fields) = has features.operators gc
 is_kind_enabled features (Cont c) = has features.operators stack_switching
 
 -- sharedness and descriptors are of proposals of their own
@@ -89,14 +87,13 @@ abbrev pub is_earlier : ℕ → Option UnpackedIndex → Bool
 is_earlier k None = true
 is_earlier k (Some i) = nat_lt (number_of i) k
 
+-- type k is valid, and its supertype is an earlier one
+abbrev pub is_valid_type : ModuleFeatures → List SubType → ℕ → SubType → Bool
+is_valid_type features types k s = is_earlier k s.supertype_idx && is_valid_sub_type features types s
+
 -- so many supertypes lie above type k, one above the other
 abbrev pub subtyping_depth : List SubType → ℕ → ℕ
 subtyping_depth types k = length (supertypes types k)
-
--- how many they are is a limit of an implementation
-abbrev pub has_valid_chain : List SubType → ℕ → SubType → Bool
-has_valid_chain types k s =
-    is_earlier k s.supertype_idx && nat_le (subtyping_depth types k) MAX_WASM_SUBTYPING_DEPTH
 
 -- ---- recursion groups (Specification, "Recursive Types")
 
@@ -118,10 +115,9 @@ are_valid_groups features types first [] = first == length types
 are_valid_groups features types first (g ∷ gs) =
     is_valid_group features types first g && are_valid_groups features types (first + g.count) gs
 
--- each group, each chain of supertypes, each type and each descriptor is valid; each type has a name
+-- each group, each type and each descriptor is valid; each type has a name
 abbrev pub are_valid_types : ModuleFeatures → List SubType → List RecGroup → List ℕ → Bool
 are_valid_types features types groups names =
     are_valid_groups features types 0 groups
-    && list_all (λ (e : ℕ × SubType). has_valid_chain types e.0 e.1) (enumerate_from 0 types)
-    && list_all (is_valid_sub_type features types) types
+    && list_all (λ (e : ℕ × SubType). is_valid_type features types e.0 e.1) (enumerate_from 0 types)
     && have_valid_descriptors types names

@@ -1,6 +1,6 @@
 -- A module whose declarations are valid (WebAssembly core specification, "Validation: Modules"). That each
--- body and each constant expression is valid too is asked of those.
-use Rattle.std.specs.Prelude.{◌≡◌, ℕ, ◌+◌, Bool, true, ◌&&◌, nat_le, length}
+-- body and each constant expression is valid too is asked of those. Limits of an implementation are no part of it.
+use Rattle.std.specs.Prelude.{◌≡◌, Bool, true, ◌&&◌, length}
 use Rattle.module_rules.specs.Declarations.{Declarations}
 use Rattle.module_rules.specs.Exports.{are_valid_exports}
 use Rattle.module_rules.specs.Functions.{are_valid_functions, are_valid_tags, is_valid_start}
@@ -10,17 +10,6 @@ use Rattle.module_rules.specs.Segments.{are_valid_elements, are_valid_data}
 use Rattle.module_rules.specs.Tables.{are_valid_tables}
 use Rattle.module_rules.specs.Types.{are_valid_types}
 use Rattle.module_rules.specs.declared.features.ModuleFeatures.{ModuleFeatures}
-use Rattle.module_rules.specs.declared.limits.TheConstants.{MAX_WASM_TYPES, MAX_WASM_IMPORTS}
-use Rattle.module_rules.specs.declared.module.Imports.{Imports}
-
--- so many items are imported
-abbrev pub import_count : Imports → ℕ
-import_count i = i.functions + i.tables + i.memories + i.globals + i.tags
-
--- how many types and imports there are is a limit of an implementation
-abbrev pub is_within_limits : Declarations → Bool
-is_within_limits d =
-    nat_le (length d.types) MAX_WASM_TYPES && nat_le (import_count d.imports) MAX_WASM_IMPORTS
 
 -- functions, tables, memories, tags and globals
 abbrev pub are_valid_items : ModuleFeatures → Declarations → Bool
@@ -41,8 +30,7 @@ are_valid_uses features d =
 
 abbrev pub is_valid_module : ModuleFeatures → Declarations → Bool
 is_valid_module features d =
-    is_within_limits d
-    && are_valid_types features d.types d.groups d.canonical
+    are_valid_types features d.types d.groups d.canonical
     && are_valid_items features d
     && are_valid_uses features d
 

@@ -6,7 +6,7 @@ ghost use Rattle.module_rules.specs.Declarations.{declarations_of};
 ghost use Rattle.module_rules.specs.declared.module.Place.{Place};
 
 use crate::elements::item_type;
-use crate::faults::Fault;
+use crate::faults::RuleFault;
 use crate::features::ModuleFeatures;
 use crate::items::{DeclaredGlobal, DeclaredMemory, DeclaredTable};
 use crate::module::{DeclaredModule, Place};
@@ -92,16 +92,16 @@ fn is_constant_array(op: ArrayOp) -> bool
 }
 
 /// There is a global at this index, among the first so many, and it can't be written.
-fn check_immutable(globals: &[DeclaredGlobal], count: usize, index: u32) -> Result<(), Fault>
+fn check_immutable(globals: &[DeclaredGlobal], count: usize, index: u32) -> Result<(), RuleFault>
     ensures { is_ok result ≡ is_immutable (slice_get (take count globals.now) index) }
 {
     if index as usize >= count {
-        return Err(Fault::UnknownGlobal(index));
+        return Err(RuleFault::UnknownGlobal(index));
     }
     match globals.get(index as usize) {
         Some(global) if !global.ty.mutable => Ok(()),
-        Some(_) => Err(Fault::WrittenGlobal),
-        None => Err(Fault::UnknownGlobal(index)),
+        Some(_) => Err(RuleFault::WrittenGlobal),
+        None => Err(RuleFault::UnknownGlobal(index)),
     }
 }
 
@@ -111,24 +111,24 @@ fn check_global(
     declared: &DeclaredModule,
     count: usize,
     index: u32,
-) -> Result<(), Fault>
+) -> Result<(), RuleFault>
     ensures { is_ok result ≡ may_name_global features (declarations_of declared.now) count index }
 {
     check_immutable(&declared.globals, count, index)?;
     if index >= declared.imports.globals && !features.operators.gc() {
-        return Err(Fault::OwnGlobal);
+        return Err(RuleFault::OwnGlobal);
     }
     Ok(())
 }
 
 /// What doesn't name a global is constant.
-fn check_constant(is_constant: bool) -> Result<(), Fault>
+fn check_constant(is_constant: bool) -> Result<(), RuleFault>
     ensures { is_ok result ≡ is_constant }
 {
     if is_constant {
         return Ok(());
     }
-    Err(Fault::NotConstant(None))
+    Err(RuleFault::NotConstant(None))
 }
 
 /// An operator is constant, where the first so many globals may be named.
@@ -137,7 +137,7 @@ fn check_operator(
     declared: &DeclaredModule,
     count: usize,
     op: Op<'_>,
-) -> Result<(), Fault>
+) -> Result<(), RuleFault>
     ensures { is_ok result ≡ is_constant_operator features
         (may_name_global features (declarations_of declared.now) count) op.entry }
 {
@@ -155,7 +155,7 @@ fn check_operator(
         Op::Struct(op) => check_constant(is_constant_struct(op)),
         Op::Array(op) => check_constant(is_constant_array(op)),
         Op::Control(ControlOp::End) | Op::Shared(SharedOp::RefI31Shared) => Ok(()),
-        _ => Err(Fault::NotConstant(None)),
+        _ => Err(RuleFault::NotConstant(None)),
     }
 }
 
@@ -176,7 +176,7 @@ fn known_globals(declared: &DeclaredModule, place: Place) -> usize
 ///
 /// Where each operator of an expression is, the expression is constant. That its operators are valid, and its
 /// value is of its type, is the validator's to say.
-pub fn check_constant_operator(at: &ConstantContext<'_>, op: Op<'_>) -> Result<(), Fault>
+pub fn check_constant_operator(at: &ConstantContext<'_>, op: Op<'_>) -> Result<(), RuleFault>
     ensures { is_ok result ≡ is_constant_in at.now.features (declarations_of at.now.declared.now) at.now.place
         op.entry }
 {

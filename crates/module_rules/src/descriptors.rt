@@ -6,7 +6,7 @@ ghost use Rattle.validate_types.specs.declared.types.SubType.{SubType};
 ghost use Rattle.validate_types.specs.Kinds.{is_struct};
 ghost use Rattle.module_rules.specs.Descriptors.{names_type, is_descriptor_of, is_described_by, has_valid_descriptor, describes_valid_type, has_valid_descriptors, have_valid_descriptors};
 
-use crate::faults::{Fault, Located};
+use crate::faults::{LocatedRule, RuleFault};
 use crate::items::RecGroup;
 use crate::types::offset_of_type;
 use validate_resources::order::number;
@@ -56,17 +56,17 @@ fn is_described_by(types: &[SubType], index: u32, name: u32, shared: bool) -> bo
 }
 
 /// What has a descriptor, or is one, is a struct.
-fn check_is_struct(inner: &CompositeInnerType) -> Result<(), Fault>
+fn check_is_struct(inner: &CompositeInnerType) -> Result<(), RuleFault>
     ensures { is_ok result ≡ is_struct inner.now }
 {
     if is_struct(inner) {
         return Ok(());
     }
-    Err(Fault::DescriptorOfNoStruct)
+    Err(RuleFault::DescriptorOfNoStruct)
 }
 
 /// A type that is named by this number has no descriptor, or is of structs and has one that describes it.
-fn check_descriptor(types: &[SubType], name: u32, ty: &CompositeType) -> Result<(), Fault>
+fn check_descriptor(types: &[SubType], name: u32, ty: &CompositeType) -> Result<(), RuleFault>
     ensures { is_ok result ≡ has_valid_descriptor types.now name ty.now ty.now.descriptor_idx }
 {
     let Some(descriptor) = ty.descriptor_idx else {
@@ -74,14 +74,14 @@ fn check_descriptor(types: &[SubType], name: u32, ty: &CompositeType) -> Result<
     };
     check_is_struct(&ty.inner)?;
     if !is_descriptor_of(types, number(descriptor.unpack()), name, ty.shared) {
-        return Err(Fault::NoMatchingDescribes);
+        return Err(RuleFault::NoMatchingDescribes);
     }
     Ok(())
 }
 
 /// A type that is named by this number describes none, or is of structs and describes an earlier type, of which it is
 /// the descriptor.
-fn check_described(types: &[SubType], name: u32, ty: &CompositeType) -> Result<(), Fault>
+fn check_described(types: &[SubType], name: u32, ty: &CompositeType) -> Result<(), RuleFault>
     ensures { is_ok result ≡ describes_valid_type types.now name ty.now ty.now.describes_idx }
 {
     let Some(described) = ty.describes_idx else {
@@ -90,16 +90,16 @@ fn check_described(types: &[SubType], name: u32, ty: &CompositeType) -> Result<(
     check_is_struct(&ty.inner)?;
     let described = number(described.unpack());
     if described >= name {
-        return Err(Fault::LaterDescribed);
+        return Err(RuleFault::LaterDescribed);
     }
     if !is_described_by(types, described, name, ty.shared) {
-        return Err(Fault::NoMatchingDescriptor);
+        return Err(RuleFault::NoMatchingDescriptor);
     }
     Ok(())
 }
 
 /// The descriptor of a type that is named by this number, and what it describes, are valid.
-fn check_described_type(types: &[SubType], name: u32, ty: &CompositeType) -> Result<(), Fault>
+fn check_described_type(types: &[SubType], name: u32, ty: &CompositeType) -> Result<(), RuleFault>
     ensures { is_ok result ≡ has_valid_descriptors types.now name ty.now }
 {
     check_descriptor(types, name, ty)?;
@@ -111,7 +111,7 @@ fn check_each_descriptor(
     types: &[SubType],
     groups: &[RecGroup],
     names: &[u32],
-) -> Result<(), Located>
+) -> Result<(), LocatedRule>
     requires { length names.now ≡ length types.now }
     ensures { is_ok result ≡ list_all (λ (e : SubType × ℕ).
         has_valid_descriptors types.now e.1 e.0.composite_type) (zip types.now names.now) }
@@ -132,11 +132,11 @@ pub fn check_descriptors(
     groups: &[RecGroup],
     names: &[u32],
     offset: u64,
-) -> Result<(), Located>
+) -> Result<(), LocatedRule>
     ensures { is_ok result ≡ have_valid_descriptors types.now names.now }
 {
     if names.len() != types.len() {
-        return Err(Fault::UnnamedTypes.at(offset));
+        return Err(RuleFault::UnnamedTypes.at(offset));
     }
     check_each_descriptor(types, groups, names)
 }

@@ -1,11 +1,13 @@
 //! Whether the exports of a module are valid (WebAssembly core specification, "Modules": exports).
 
-ghost use Rattle.std.specs.Prelude.{◌≡◌, ◌&&◌, is_ok, length, nat_le, slice_get};
+ghost use Rattle.std.specs.Prelude.{◌≡◌, is_ok, length, nat_le, slice_get};
 ghost use Rattle.std.specs.List.{list_all};
 ghost use Rattle.module_rules.specs.Declarations.{declarations_of};
+ghost use Rattle.module_rules.specs.Judged.{JudgesAt};
+ghost use Rattle.module_rules.specs.declared.limits.TheConstants.{MAX_WASM_EXPORTS};
 ghost use Rattle.module_rules.specs.Exports.{item_count, is_read_only, is_export_enabled, is_valid_export};
 
-use crate::faults::{Fault, Located, locate};
+use crate::faults::{LimitFault, Located, LocatedRule, RuleFault, locate, of_rules};
 use crate::features::ModuleFeatures;
 use crate::items::{DeclaredGlobal, Export, ExternalKind};
 use crate::limits::MAX_WASM_EXPORTS;
@@ -54,14 +56,14 @@ fn check_export(
     features: ModuleFeatures,
     declared: &DeclaredModule,
     export: &Export,
-) -> Result<(), Fault>
+) -> Result<(), RuleFault>
     ensures { is_ok result ≡ is_valid_export features (declarations_of declared.now) export.now }
 {
     if export.index as usize >= item_count(declared, export.kind) {
-        return Err(Fault::UnknownExport(export.kind, export.index));
+        return Err(RuleFault::UnknownExport(export.kind, export.index));
     }
     if !is_export_enabled(features, &declared.globals, export.kind, export.index) {
-        return Err(Fault::WrittenGlobalsOff);
+        return Err(RuleFault::WrittenGlobalsOff);
     }
     Ok(())
 }
@@ -71,7 +73,7 @@ fn check_each_export(
     features: ModuleFeatures,
     declared: &DeclaredModule,
     exports: &[Export],
-) -> Result<(), Located>
+) -> Result<(), LocatedRule>
     ensures { is_ok result ≡ list_all (is_valid_export features (declarations_of declared.now)) exports.now }
 {
     for export in exports {
@@ -80,14 +82,14 @@ fn check_each_export(
     Ok(())
 }
 
-/// The exports are valid, as far as none has another's name.
+/// The exports are valid, as far as none has another's name, and no more than may be.
 pub fn check_exports(features: ModuleFeatures, declared: &DeclaredModule) -> Result<(), Located>
-    ensures { is_ok result ≡ (nat_le (length (declarations_of declared.now).exports) MAX_WASM_EXPORTS
-        && list_all (is_valid_export features (declarations_of declared.now))
-        (declarations_of declared.now).exports) }
+    ensures { JudgesAt (list_all (is_valid_export features (declarations_of declared.now))
+        (declarations_of declared.now).exports)
+        (nat_le (length (declarations_of declared.now).exports) MAX_WASM_EXPORTS) result }
 {
     if let Some(export) = declared.exports.get(MAX_WASM_EXPORTS) {
-        return Err(Fault::too_many("exports", MAX_WASM_EXPORTS).at(export.offset));
+        return Err(LimitFault::too_many("exports", MAX_WASM_EXPORTS).at(export.offset));
     }
-    check_each_export(features, declared, &declared.exports)
+    of_rules(check_each_export(features, declared, &declared.exports))
 }

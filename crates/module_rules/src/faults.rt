@@ -1,6 +1,7 @@
-//! Why a declaration isn't valid, and where it stands.
+//! Why a declaration isn't valid, or is past a limit, and where it stands.
 
-ghost use Rattle.std.specs.Prelude.{◌≡◌, is_ok};
+ghost use Rattle.std.specs.Prelude.{◌≡◌, true, is_ok};
+ghost use Rattle.module_rules.specs.Judged.{is_limit, JudgesAt};
 
 use crate::items::ExternalKind;
 use validate_types::RefType;
@@ -16,14 +17,7 @@ pub struct VisitName {
 
 /// Why a declaration isn't valid: the first of its rules that doesn't hold.
 #[derive(Clone, Copy)]
-pub enum Fault {
-    /// There are more of something than this, which may be.
-    TooMany {
-        /// What there is too much of.
-        what: &'static str,
-        /// How much of it may be.
-        most: usize,
-    },
+pub enum RuleFault {
     /// The proposal of a type is off. The text says which.
     TypeOff(&'static str),
     /// There is no type at this index.
@@ -55,8 +49,6 @@ pub enum Fault {
     SubtypesOff,
     /// The supertype is no earlier type.
     LaterSupertype,
-    /// More supertypes lie above a type than may be.
-    TooDeep,
     /// The supertype is final.
     FinalSupertype,
     /// The type doesn't match its supertype.
@@ -72,8 +64,6 @@ pub enum Fault {
     StructsOff,
     /// A continuation type, without its proposal.
     ContinuationsOff,
-    /// A struct has more fields than may be.
-    TooManyFields,
     /// A shared type, without its proposal.
     SharedTypesOff,
     /// What isn't shared stands in a shared type.
@@ -100,6 +90,8 @@ pub enum Fault {
 
     /// The size at first is above the maximum.
     MinimumAboveMaximum,
+    /// Several tables, without the proposal of that.
+    SeveralTables,
     /// A table has addresses of 64 bits, without their proposal.
     Table64Off,
     /// A shared table, without its proposal.
@@ -113,6 +105,8 @@ pub enum Fault {
     /// A table has an initializer, without the proposal of that.
     TableInitializersOff,
 
+    /// Several memories, without the proposal of that.
+    SeveralMemories,
     /// A memory has addresses of 64 bits, without their proposal.
     Memory64Off,
     /// A shared memory, without its proposal.
@@ -137,8 +131,6 @@ pub enum Fault {
     /// What isn't shared stands in a shared global.
     UnsharedValue,
 
-    /// A segment has more elements than may be.
-    TooManyElements,
     /// Elements of the first type don't fit into a table of the second.
     ElementMismatch(RefType, RefType),
     /// A segment that goes nowhere at first, without the proposal of that.
@@ -154,6 +146,42 @@ pub enum Fault {
     WrittenGlobal,
 }
 
+/// Which limit of this implementation a declaration is past.
+#[derive(Clone, Copy)]
+pub enum LimitFault {
+    /// There are more of something than this, which may be.
+    TooMany {
+        /// What there is too much of.
+        what: &'static str,
+        /// How much of it may be.
+        most: usize,
+    },
+    /// More supertypes lie above a type than may be.
+    TooDeep,
+    /// A struct has more fields than may be.
+    TooManyFields,
+    /// A segment has more elements than may be.
+    TooManyElements,
+}
+
+/// Why a declaration is refused.
+#[derive(Clone, Copy)]
+pub enum Fault {
+    /// It isn't valid.
+    Rule(RuleFault),
+    /// It is past a limit of this implementation. Whether it is valid isn't told.
+    Limit(LimitFault),
+}
+
+/// A rule that doesn't hold, of the declaration at this offset.
+#[derive(Clone, Copy)]
+pub struct LocatedRule {
+    /// The fault.
+    pub fault: RuleFault,
+    /// Where the declaration stands.
+    pub offset: u64,
+}
+
 /// A fault of the declaration at this offset.
 #[derive(Clone, Copy)]
 pub struct Located {
@@ -163,14 +191,42 @@ pub struct Located {
     pub offset: u64,
 }
 
-impl Fault {
+impl RuleFault {
+    /// The fault, of the declaration at this offset.
+    pub fn at(self, offset: u64) -> LocatedRule {
+        LocatedRule {
+            fault: self,
+            offset,
+        }
+    }
+}
+
+impl LimitFault {
     /// There are more of this than so many, which may be.
-    pub fn too_many(what: &'static str, most: usize) -> Fault {
-        Fault::TooMany { what, most }
+    pub fn too_many(what: &'static str, most: usize) -> LimitFault {
+        LimitFault::TooMany { what, most }
     }
 
     /// The fault, of the declaration at this offset.
-    pub fn at(self, offset: u64) -> Located {
+    pub fn at(self, offset: u64) -> Located
+        ensures { is_limit result.fault ≡ true }
+    {
+        Fault::Limit(self).at(offset)
+    }
+}
+
+impl Fault {
+    /// Whether it is that of a limit.
+    pub fn is_limit(self) -> bool
+        ensures { result ≡ is_limit self }
+    {
+        matches!(&self, Fault::Limit(_))
+    }
+
+    /// The fault, of the declaration at this offset.
+    pub fn at(self, offset: u64) -> Located
+        ensures { result.fault ≡ self }
+    {
         Located {
             fault: self,
             offset,
@@ -178,12 +234,42 @@ impl Fault {
     }
 }
 
-/// What comes of the check of the declaration at this offset.
-pub fn locate(checked: Result<(), Fault>, offset: u64) -> Result<(), Located>
+impl From<RuleFault> for Fault {
+    ghost use Rattle.module_rules.specs.declared.faults.Fault.TheVariants.{Rule};
+
+    ghost from_gives = { λ rule fault. fault ≡ Rule rule };
+
+    fn from(rule: RuleFault) -> Fault {
+        Fault::Rule(rule)
+    }
+}
+
+impl From<LimitFault> for Fault {
+    ghost use Rattle.module_rules.specs.declared.faults.Fault.TheVariants.{Limit};
+
+    ghost from_gives = { λ limit fault. fault ≡ Limit limit };
+
+    fn from(limit: LimitFault) -> Fault {
+        Fault::Limit(limit)
+    }
+}
+
+/// What comes of the check of the rules of the declaration at this offset.
+pub fn locate(checked: Result<(), RuleFault>, offset: u64) -> Result<(), LocatedRule>
     ensures { is_ok result ≡ is_ok checked }
 {
     match checked {
         Ok(()) => Ok(()),
         Err(fault) => Err(fault.at(offset)),
+    }
+}
+
+/// What comes of a check of rules alone, among those that check limits too.
+pub fn of_rules(checked: Result<(), LocatedRule>) -> Result<(), Located>
+    ensures { JudgesAt (is_ok checked) true result }
+{
+    match checked {
+        Ok(()) => Ok(()),
+        Err(rule) => Err(Fault::Rule(rule.fault).at(rule.offset)),
     }
 }

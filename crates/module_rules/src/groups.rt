@@ -2,10 +2,11 @@
 //! "Recursive Types").
 
 ghost use Rattle.std.specs.Prelude.{◌≡◌, ◌≤◌, is_ok, length, nat_le};
-ghost use Rattle.module_rules.specs.Types.{is_earlier, subtyping_depth, has_valid_chain, named_below, is_valid_group, are_valid_groups};
+ghost use Rattle.module_rules.specs.Types.{is_earlier, subtyping_depth, named_below, is_valid_group, are_valid_groups};
+ghost use Rattle.module_rules.specs.Judged.{Judges};
 ghost use Rattle.module_rules.specs.declared.limits.TheConstants.{MAX_WASM_SUBTYPING_DEPTH};
 
-use crate::faults::{Fault, Located, locate};
+use crate::faults::{Fault, LimitFault, LocatedRule, RuleFault, locate};
 use crate::features::ModuleFeatures;
 use crate::indices::known_in_sub_types;
 use crate::items::RecGroup;
@@ -22,11 +23,11 @@ fn named_below(features: ModuleFeatures, first: usize, end: usize) -> usize
 }
 
 /// Why the types of a group that ends at this index can't name the one at that.
-fn unknown_name(index: u32, end: usize) -> Fault {
+fn unknown_name(index: u32, end: usize) -> RuleFault {
     if (index as usize) < end {
-        Fault::RecursiveTypeOff(index)
+        RuleFault::RecursiveTypeOff(index)
     } else {
-        Fault::UnknownType(index)
+        RuleFault::UnknownType(index)
     }
 }
 
@@ -36,16 +37,16 @@ fn check_group(
     types: &[SubType],
     first: usize,
     group: &RecGroup,
-) -> Result<(), Fault>
+) -> Result<(), RuleFault>
     requires { first ≤ length types.now }
     ensures { is_ok result ≡ is_valid_group features types.now first group.now }
 {
     if group.explicit && !features.operators.gc() {
-        return Err(Fault::GroupOff);
+        return Err(RuleFault::GroupOff);
     }
     let end = first + group.count as usize;
     if end > types.len() {
-        return Err(Fault::GroupPastTypes);
+        return Err(RuleFault::GroupPastTypes);
     }
     match known_in_sub_types(&types[first..end], named_below(features, first, end)) {
         Ok(()) => Ok(()),
@@ -58,7 +59,7 @@ pub fn check_groups(
     features: ModuleFeatures,
     types: &[SubType],
     groups: &[RecGroup],
-) -> Result<(), Located>
+) -> Result<(), LocatedRule>
     ensures { is_ok result ≡ are_valid_groups features types.now 0 groups.now }
 {
     let mut first = 0;
@@ -69,7 +70,7 @@ pub fn check_groups(
         first += group.count as usize;
     }
     if first != types.len() {
-        return Err(Fault::TypesOutsideGroups.at(offset));
+        return Err(RuleFault::TypesOutsideGroups.at(offset));
     }
     Ok(())
 }
@@ -102,13 +103,14 @@ fn is_within_depth(types: &[SubType], index: usize) -> bool
 
 /// The type at this index has no supertype or an earlier one, and no more than may be lie above it.
 pub fn check_chain(types: &[SubType], index: usize, ty: &SubType) -> Result<(), Fault>
-    ensures { is_ok result ≡ has_valid_chain types.now index ty.now }
+    ensures { Judges (is_earlier index ty.now.supertype_idx)
+        (nat_le (subtyping_depth types.now index) MAX_WASM_SUBTYPING_DEPTH) result }
 {
     if !is_earlier(index, ty.supertype_idx) {
-        return Err(Fault::LaterSupertype);
+        return Err(Fault::Rule(RuleFault::LaterSupertype));
     }
     if !is_within_depth(types, index) {
-        return Err(Fault::TooDeep);
+        return Err(Fault::Limit(LimitFault::TooDeep));
     }
     Ok(())
 }

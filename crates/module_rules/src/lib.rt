@@ -20,6 +20,7 @@ mod memories;
 mod mixing;
 mod module;
 mod names;
+mod refusals;
 mod segments;
 mod sizes;
 mod tables;
@@ -28,7 +29,7 @@ mod types;
 mod validity;
 
 pub use crate::constants::{ConstantContext, check_constant_operator, expression_type};
-pub use crate::faults::{Fault, Located, VisitName};
+pub use crate::faults::{Fault, LimitFault, Located, LocatedRule, RuleFault, VisitName};
 pub use crate::features::{DECLARATION_FLAGS, ModuleFeatures};
 pub use crate::items::{
     DeclaredFunction, DeclaredGlobal, DeclaredMemory, DeclaredTable, DeclaredTag, Export,
@@ -36,6 +37,7 @@ pub use crate::items::{
 };
 pub use crate::mixing::mix;
 pub use crate::module::{DeclaredModule, Imports, Place};
+pub use crate::refusals::ModuleRefusal;
 pub use crate::segments::{
     Data, DataCount, DataKind, Element, ElementItems, ElementKind, FunctionItems,
 };

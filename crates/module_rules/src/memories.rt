@@ -1,58 +1,60 @@
 //! Whether the memories of a module are valid (WebAssembly core specification, "Memory Types", and "Modules":
 //! memories).
 
-ghost use Rattle.std.specs.Prelude.{◌≡◌, is_ok};
+ghost use Rattle.std.specs.Prelude.{◌≡◌, is_ok, length, nat_le};
 ghost use Rattle.std.specs.List.{list_all};
-ghost use Rattle.module_rules.specs.Memories.{is_valid_page_size, is_valid_memory, max_memories, are_valid_memories};
+ghost use Rattle.module_rules.specs.Judged.{JudgesAt};
+ghost use Rattle.module_rules.specs.declared.limits.TheConstants.{MAX_WASM_MEMORIES};
+ghost use Rattle.module_rules.specs.Memories.{is_valid_page_size, is_valid_memory, may_be_so_many, are_valid_memories};
 
-use crate::faults::{Fault, Located, locate};
+use crate::faults::{LimitFault, Located, LocatedRule, RuleFault, locate, of_rules};
 use crate::features::ModuleFeatures;
 use crate::items::DeclaredMemory;
 use crate::limits::MAX_WASM_MEMORIES;
 use crate::sizes::{are_memory_limits, are_ordered};
 
 /// Pages may be of this size.
-fn check_page_size(features: ModuleFeatures, page_size_log2: Option<u32>) -> Result<(), Fault>
+fn check_page_size(features: ModuleFeatures, page_size_log2: Option<u32>) -> Result<(), RuleFault>
     ensures { is_ok result ≡ is_valid_page_size features page_size_log2 }
 {
     let Some(size) = page_size_log2 else {
         return Ok(());
     };
     if !features.custom_page_sizes {
-        return Err(Fault::PageSizesOff);
+        return Err(RuleFault::PageSizesOff);
     }
     if size != 0 && size != 16 {
-        return Err(Fault::PageSize);
+        return Err(RuleFault::PageSize);
     }
     Ok(())
 }
 
 /// A memory has more pages than there are addresses for.
-fn too_many_pages(memory: &DeclaredMemory) -> Fault {
+fn too_many_pages(memory: &DeclaredMemory) -> RuleFault {
     match (memory.ty.memory64, memory.page_size_log2) {
-        (false, None | Some(16)) => Fault::TooManyPages,
-        (false, Some(_)) => Fault::TooManySmallPages,
-        (true, _) => Fault::TooManyPages64,
+        (false, None | Some(16)) => RuleFault::TooManyPages,
+        (false, Some(_)) => RuleFault::TooManySmallPages,
+        (true, _) => RuleFault::TooManyPages64,
     }
 }
 
 /// A memory is valid.
 #[tactic(auto, using(crate::proofs::Decided::and_false))]
-fn check_memory(features: ModuleFeatures, memory: &DeclaredMemory) -> Result<(), Fault>
+fn check_memory(features: ModuleFeatures, memory: &DeclaredMemory) -> Result<(), RuleFault>
     ensures { is_ok result ≡ is_valid_memory features memory.now }
 {
     if !are_ordered(memory.limits) {
-        return Err(Fault::MinimumAboveMaximum);
+        return Err(RuleFault::MinimumAboveMaximum);
     }
     if memory.ty.memory64 && !features.memory64 {
-        return Err(Fault::Memory64Off);
+        return Err(RuleFault::Memory64Off);
     }
     if memory.ty.shared && !features.operators.threads() {
-        return Err(Fault::SharedMemoriesOff);
+        return Err(RuleFault::SharedMemoriesOff);
     }
     check_page_size(features, memory.page_size_log2)?;
     if memory.ty.shared && memory.limits.maximum.is_none() {
-        return Err(Fault::SharedWithoutMaximum);
+        return Err(RuleFault::SharedWithoutMaximum);
     }
     if !are_memory_limits(memory.ty.memory64, memory.page_size_log2, memory.limits) {
         return Err(too_many_pages(memory));
@@ -60,19 +62,23 @@ fn check_memory(features: ModuleFeatures, memory: &DeclaredMemory) -> Result<(),
     Ok(())
 }
 
-/// So many memories a module may have.
-pub fn max_memories(features: ModuleFeatures) -> usize
-    ensures { result ≡ max_memories features }
+/// There is one memory at the most, or the proposal of several is on.
+fn check_count(features: ModuleFeatures, memories: &[DeclaredMemory]) -> Result<(), LocatedRule>
+    ensures { is_ok result ≡ may_be_so_many features (length memories.now) }
 {
-    if features.multi_memory {
-        MAX_WASM_MEMORIES
-    } else {
-        1
+    match memories.get(1) {
+        Some(memory) if !features.multi_memory => {
+            Err(RuleFault::SeveralMemories.at(memory.offset))
+        }
+        _ => Ok(()),
     }
 }
 
 /// Each memory is valid.
-fn check_each_memory(features: ModuleFeatures, memories: &[DeclaredMemory]) -> Result<(), Located>
+fn check_each_memory(
+    features: ModuleFeatures,
+    memories: &[DeclaredMemory],
+) -> Result<(), LocatedRule>
     ensures { is_ok result ≡ list_all (is_valid_memory features) memories.now }
 {
     for memory in memories {
@@ -81,13 +87,14 @@ fn check_each_memory(features: ModuleFeatures, memories: &[DeclaredMemory]) -> R
     Ok(())
 }
 
-/// The memories are valid.
+/// The memories are valid, and no more than may be.
 pub fn check_memories(features: ModuleFeatures, memories: &[DeclaredMemory]) -> Result<(), Located>
-    ensures { is_ok result ≡ are_valid_memories features memories.now }
+    ensures { JudgesAt (are_valid_memories features memories.now)
+        (nat_le (length memories.now) MAX_WASM_MEMORIES) result }
 {
-    let most = max_memories(features);
-    if let Some(memory) = memories.get(most) {
-        return Err(Fault::too_many("memories", most).at(memory.offset));
+    of_rules(check_count(features, memories))?;
+    if let Some(memory) = memories.get(MAX_WASM_MEMORIES) {
+        return Err(LimitFault::too_many("memories", MAX_WASM_MEMORIES).at(memory.offset));
     }
-    check_each_memory(features, memories)
+    of_rules(check_each_memory(features, memories))
 }

@@ -1,8 +1,14 @@
 //! The texts of faults: wasmparser's, as far as they are known.
 
-use crate::faults::{Fault, Located, VisitName};
+ghost use Rattle.std.specs.Prelude.{◌≡◌, true, false};
+ghost use Rattle.module_rules.specs.Judged.{is_limit};
+ghost use Rattle.module_rules.specs.declared.refusals.ModuleRefusal.TheVariants.{Invalid, TooLarge};
+ghost use Rattle.validate_types.specs.declared.error.Error.{Error};
+
+use crate::faults::{Fault, LimitFault, Located, LocatedRule, RuleFault, VisitName};
 use crate::items::ExternalKind;
 use crate::limits::MAX_WASM_SUBTYPING_DEPTH;
+use crate::refusals::ModuleRefusal;
 use std::alloc::{AllocError, Global};
 use std::fmt;
 use validate_types::{Error, RefType};
@@ -46,154 +52,172 @@ fn kind_name(kind: ExternalKind) -> &'static str {
     }
 }
 
-impl Fault {
+impl RuleFault {
     /// The text of it, by its parts.
     fn wording(self) -> Wording {
         match self {
-            Fault::TooMany { what, most } => Wording::TooMany(what, most),
-            Fault::TypeOff(text) => Wording::Fixed(text),
-            Fault::UnknownType(index) => {
+            RuleFault::TypeOff(text) => Wording::Fixed(text),
+            RuleFault::UnknownType(index) => {
                 Wording::Index("unknown type ", index, ": type index out of bounds")
             }
-            Fault::UnknownFunction(index) => {
+            RuleFault::UnknownFunction(index) => {
                 Wording::Index("unknown function ", index, ": func index out of bounds")
             }
-            Fault::UnknownTable(index) => {
+            RuleFault::UnknownTable(index) => {
                 Wording::Index("unknown table ", index, ": table index out of bounds")
             }
-            Fault::UnknownMemory(index) => {
+            RuleFault::UnknownMemory(index) => {
                 Wording::Index("unknown memory ", index, ": memory index out of bounds")
             }
-            Fault::UnknownGlobal(index) => {
+            RuleFault::UnknownGlobal(index) => {
                 Wording::Index("unknown global ", index, ": global index out of bounds")
             }
-            Fault::UnknownExport(kind, index) => Wording::UnknownExport(kind_name(kind), index),
-            Fault::NoFuncType(index) => {
+            RuleFault::UnknownExport(kind, index) => Wording::UnknownExport(kind_name(kind), index),
+            RuleFault::NoFuncType(index) => {
                 Wording::Index("type index ", index, " is not a function type")
             }
-            Fault::GroupOff => {
+            RuleFault::GroupOff => {
                 Wording::Fixed("rec group usage requires `gc` proposal to be enabled")
             }
-            Fault::RecursiveTypeOff(index) => Wording::Index(
+            RuleFault::RecursiveTypeOff(index) => Wording::Index(
                 "unknown type ",
                 index,
                 ": type index out of bounds because the GC proposal is disabled",
             ),
-            Fault::GroupPastTypes => {
+            RuleFault::GroupPastTypes => {
                 Wording::Fixed("recursion groups have more types than there are")
             }
-            Fault::TypesOutsideGroups => Wording::Fixed("types stand outside of recursion groups"),
-            Fault::UnnamedTypes => Wording::Fixed("types without a name"),
-            Fault::SubtypesOff => Wording::Fixed("gc proposal must be enabled to use subtypes"),
-            Fault::LaterSupertype => Wording::Fixed("supertypes must be defined before subtypes"),
-            Fault::TooDeep => Wording::TooDeep,
-            Fault::FinalSupertype => Wording::Fixed("sub type cannot have a final super type"),
-            Fault::SupertypeMismatch => Wording::Fixed("sub type must match super type"),
-            Fault::ContinuationOfNoFunction(index) => Wording::Index(
+            RuleFault::TypesOutsideGroups => Wording::Fixed(
+                "types stand outside of recursion groups",
+            ),
+            RuleFault::UnnamedTypes => Wording::Fixed("types without a name"),
+            RuleFault::SubtypesOff => Wording::Fixed("gc proposal must be enabled to use subtypes"),
+            RuleFault::LaterSupertype => Wording::Fixed(
+                "supertypes must be defined before subtypes",
+            ),
+            RuleFault::FinalSupertype => Wording::Fixed("sub type cannot have a final super type"),
+            RuleFault::SupertypeMismatch => Wording::Fixed("sub type must match super type"),
+            RuleFault::ContinuationOfNoFunction(index) => Wording::Index(
                 "non-function type ",
                 index,
                 "",
             ),
-            Fault::SeveralResultsOff => Wording::Fixed(
+            RuleFault::SeveralResultsOff => Wording::Fixed(
                 "func type returns multiple values but the multi-value feature is not enabled",
             ),
-            Fault::ArraysOff => {
+            RuleFault::ArraysOff => {
                 Wording::Fixed("array indexed types not supported without the gc feature")
             }
-            Fault::StructsOff => {
+            RuleFault::StructsOff => {
                 Wording::Fixed("struct indexed types not supported without the gc feature")
             }
-            Fault::ContinuationsOff => {
+            RuleFault::ContinuationsOff => {
                 Wording::Fixed(
                     "cont indexed types not supported without the stack switching feature",
                 )
             }
-            Fault::TooManyFields => Wording::Fixed("struct fields size is out of bounds"),
-            Fault::SharedTypesOff => Wording::Fixed(
+            RuleFault::SharedTypesOff => Wording::Fixed(
                 "shared composite types require the shared-everything-threads proposal",
             ),
-            Fault::UnsharedPart => {
+            RuleFault::UnsharedPart => {
                 Wording::Fixed("shared composite type must contain shared types")
             }
-            Fault::DescriptorsOff => Wording::Fixed(
+            RuleFault::DescriptorsOff => Wording::Fixed(
                 "custom descriptors proposal must be enabled to use descriptor and describes",
             ),
-            Fault::DescriptorOfNoStruct => {
+            RuleFault::DescriptorOfNoStruct => {
                 Wording::Fixed("descriptor or describes on non-struct type")
             }
-            Fault::LaterDescribed => Wording::Fixed("forward describes reference"),
-            Fault::NoMatchingDescribes => {
+            RuleFault::LaterDescribed => Wording::Fixed("forward describes reference"),
+            RuleFault::NoMatchingDescribes => {
                 Wording::Fixed("descriptor with no matching describes")
             }
-            Fault::NoMatchingDescriptor => {
+            RuleFault::NoMatchingDescriptor => {
                 Wording::Fixed("describes with no matching descriptor")
             }
-            Fault::ExactImportsOff => Wording::Fixed(
+            RuleFault::ExactImportsOff => Wording::Fixed(
                 "custom descriptors proposal must be enabled to use exact function imports",
             ),
-            Fault::ExceptionsOff => Wording::Fixed("exceptions proposal not enabled"),
-            Fault::TagWithResults => {
+            RuleFault::ExceptionsOff => Wording::Fixed("exceptions proposal not enabled"),
+            RuleFault::TagWithResults => {
                 Wording::Fixed("invalid exception type: non-empty tag result type")
             }
-            Fault::StartType => Wording::Fixed("invalid start function type"),
-            Fault::MinimumAboveMaximum => {
+            RuleFault::StartType => Wording::Fixed("invalid start function type"),
+            RuleFault::MinimumAboveMaximum => {
                 Wording::Fixed("size minimum must not be greater than maximum")
             }
-            Fault::Table64Off => Wording::Fixed("memory64 must be enabled for 64-bit tables"),
-            Fault::SharedTablesOff => {
+            RuleFault::SeveralTables => Wording::Fixed("multiple tables"),
+            RuleFault::Table64Off => Wording::Fixed("memory64 must be enabled for 64-bit tables"),
+            RuleFault::SharedTablesOff => {
                 Wording::Fixed("shared tables require the shared-everything-threads proposal")
             }
-            Fault::UnsharedElements => {
+            RuleFault::UnsharedElements => {
                 Wording::Fixed("shared tables must have a shared element type")
             }
-            Fault::TableTooLarge => Wording::Fixed("maximum table size is out of bounds"),
-            Fault::NoInitializer => Wording::Fixed(
+            RuleFault::TableTooLarge => Wording::Fixed("maximum table size is out of bounds"),
+            RuleFault::NoInitializer => Wording::Fixed(
                 "type mismatch: non-defaultable element type must have initialization expression",
             ),
-            Fault::TableInitializersOff => Wording::Fixed(
+            RuleFault::TableInitializersOff => Wording::Fixed(
                 "tables with expression initializers require the function-references proposal",
             ),
-            Fault::Memory64Off => Wording::Fixed("memory64 must be enabled for 64-bit memories"),
-            Fault::SharedMemoriesOff => {
+            RuleFault::SeveralMemories => Wording::Fixed("multiple memories"),
+            RuleFault::Memory64Off => Wording::Fixed(
+                "memory64 must be enabled for 64-bit memories",
+            ),
+            RuleFault::SharedMemoriesOff => {
                 Wording::Fixed("threads must be enabled for shared memories")
             }
-            Fault::SharedWithoutMaximum => {
+            RuleFault::SharedWithoutMaximum => {
                 Wording::Fixed("shared memory must have maximum size")
             }
-            Fault::PageSizesOff => Wording::Fixed(
+            RuleFault::PageSizesOff => Wording::Fixed(
                 "the custom page sizes proposal must be enabled to customize a memory's page size",
             ),
-            Fault::PageSize => Wording::Fixed("invalid custom page size"),
-            Fault::TooManyPages => {
+            RuleFault::PageSize => Wording::Fixed("invalid custom page size"),
+            RuleFault::TooManyPages => {
                 Wording::Fixed("memory size must be at most 65536 pages (4GiB)")
             }
-            Fault::TooManySmallPages => {
+            RuleFault::TooManySmallPages => {
                 Wording::Fixed("memory size must be at most 4294967295 pages of 1 byte")
             }
-            Fault::TooManyPages64 => Wording::Fixed("memory size must be at most 2**48 pages"),
-            Fault::WrittenGlobalsOff => { Wording::Fixed("mutable global support is not enabled") }
-            Fault::SharedGlobalsOff => {
+            RuleFault::TooManyPages64 => Wording::Fixed("memory size must be at most 2**48 pages"),
+            RuleFault::WrittenGlobalsOff => {
+                Wording::Fixed("mutable global support is not enabled")
+            }
+            RuleFault::SharedGlobalsOff => {
                 Wording::Fixed("shared globals require the shared-everything-threads proposal")
             }
-            Fault::UnsharedValue => {
+            RuleFault::UnsharedValue => {
                 Wording::Fixed("shared globals must have a shared value type")
             }
-            Fault::TooManyElements => Wording::Fixed("number of elements is out of bounds"),
-            Fault::ElementMismatch(ty, above) => Wording::ElementMismatch(ty, above),
-            Fault::BulkMemoryOff => Wording::Fixed("bulk memory must be enabled"),
-            Fault::DataCount => {
+            RuleFault::ElementMismatch(ty, above) => Wording::ElementMismatch(ty, above),
+            RuleFault::BulkMemoryOff => Wording::Fixed("bulk memory must be enabled"),
+            RuleFault::DataCount => {
                 Wording::Fixed("data count and data section have inconsistent lengths")
             }
-            Fault::NotConstant(None) => {
+            RuleFault::NotConstant(None) => {
                 Wording::Fixed("constant expression required: non-constant operator")
             }
-            Fault::NotConstant(Some(visit)) => Wording::NotConstant(visit),
-            Fault::OwnGlobal => Wording::Fixed(
+            RuleFault::NotConstant(Some(visit)) => Wording::NotConstant(visit),
+            RuleFault::OwnGlobal => Wording::Fixed(
                 "constant expression required: global.get of locally defined global",
             ),
-            Fault::WrittenGlobal => {
+            RuleFault::WrittenGlobal => {
                 Wording::Fixed("constant expression required: global.get of mutable global")
             }
+        }
+    }
+}
+
+impl LimitFault {
+    /// The text of it, by its parts.
+    fn wording(self) -> Wording {
+        match self {
+            LimitFault::TooMany { what, most } => Wording::TooMany(what, most),
+            LimitFault::TooDeep => Wording::TooDeep,
+            LimitFault::TooManyFields => Wording::Fixed("struct fields size is out of bounds"),
+            LimitFault::TooManyElements => Wording::Fixed("number of elements is out of bounds"),
         }
     }
 }
@@ -204,7 +228,6 @@ impl Wording {
         match self {
             Wording::Fixed(text) => String::from_str(alloc, text),
             Wording::Index(before, index, behind) => format!(in alloc; "{before}{index}{behind}"),
-            Wording::TooMany(what, 1) => format!(in alloc; "multiple {what}"),
             Wording::TooMany(what, most) => {
                 format!(in alloc; "{what} count exceeds limit of {most}")
             }
@@ -226,14 +249,33 @@ impl Wording {
             }
         }
     }
+    /// The error with this text, at this offset. It takes memory for a text that is made of parts.
+    fn error(self, alloc: Global, offset: u64) -> Error {
+        match self {
+            Wording::Fixed(text) => Error::new(text, offset),
+            parts => Error::from_text(parts.made(alloc), offset),
+        }
+    }
+}
+
+impl LocatedRule {
+    /// The error of the declaration, at its offset. It takes memory for a text that is made of parts.
+    pub fn error(self, alloc: Global) -> Error {
+        self.fault.wording().error(alloc, self.offset)
+    }
 }
 
 impl Located {
     /// The refusal of the declaration, at its offset. It takes memory for a text that is made of parts.
-    pub fn refusal(self, alloc: Global) -> Error {
-        match self.fault.wording() {
-            Wording::Fixed(text) => Error::new(text, self.offset),
-            parts => Error::from_text(parts.made(alloc), self.offset),
+    pub fn refusal(self, alloc: Global) -> ModuleRefusal
+        ensures invalid { (e : Error) → result ≡ Invalid e → is_limit self.fault ≡ false }
+        ensures too_large { (e : Error) → result ≡ TooLarge e → is_limit self.fault ≡ true }
+    {
+        match self.fault {
+            Fault::Rule(fault) => ModuleRefusal::invalid(fault.wording().error(alloc, self.offset)),
+            Fault::Limit(fault) => {
+                ModuleRefusal::too_large(fault.wording().error(alloc, self.offset))
+            }
         }
     }
 }

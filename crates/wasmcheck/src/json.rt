@@ -3,7 +3,7 @@
 use crate::lines::{Counts, Finding, Summary};
 use crate::operators::RefusedOperator;
 use crate::written::Written;
-use module_check::{Item, Outcome, Verdict};
+use module_check::{Item, Verdict};
 use std::str::Utf8Chunk;
 use validate_types::Error;
 
@@ -117,7 +117,7 @@ pub fn add_finding(out: &mut Written, file: &[u8], finding: &Finding<'_>) {
     if let Some(name) = finding.name {
         add_string(out, "name", name);
     }
-    add_string(out, "verdict", Outcome::of(finding.verdict).word());
+    add_string(out, "verdict", finding.outcome.word());
     match finding.verdict {
         Verdict::Refused(refusal) | Verdict::Malformed(refusal) => {
             add_refusal(out, finding.operator, refusal);

@@ -19,6 +19,8 @@ pub struct Finding<'r> {
     /// The operator that is refused, where one is.
     pub operator: Option<RefusedOperator>,
     /// What it comes to.
+    pub outcome: Outcome,
+    /// Why.
     pub verdict: &'r Verdict,
     /// What is shown of its operators, as it was written: lines, or members of an object.
     pub shown: &'r Written,

@@ -11,11 +11,11 @@ use crate::lines::{Finding, Lines};
 use crate::operators::{Code, Trail, trail_to};
 use crate::options::Detail;
 use crate::shown::add_word;
-use crate::verdict_writer::{Tally, write_item, write_module, write_tally};
+use crate::verdict_writer::{Tally, write_item, write_module, write_tally, write_too_large};
 use crate::written::Written;
 use module_check::{
-    BodyBuffers, Checked, FunctionNames, Item, LoadedModule, ModuleFeatures, Outcome, Verdict,
-    check_item, item_count,
+    BodyBuffers, Checked, FunctionNames, Item, LoadRefusal, LoadedModule, ModuleFeatures, Outcome,
+    Verdict, check_item, item_count,
 };
 use module_rules::expression_type;
 use std::io::{IsTerminal, Write};
@@ -177,6 +177,7 @@ impl<'m> ModuleCheck<'_, 'm, '_> {
             item: Some(checked.item),
             name,
             operator: trail.operator,
+            outcome: Outcome::of(&checked.verdict),
             verdict: &checked.verdict,
             shown: &shown,
         };
@@ -342,9 +343,12 @@ pub fn check_bytes<W: Write>(
 {
     match LoadedModule::new(rt.alloc(), bytes, options.features) {
         Ok(module) => check_module(rt, out, options, &module),
-        Err(verdict) => {
+        Err(LoadRefusal::Judged(verdict)) => {
             let refused = write_module(out, options.lines, options.detail, &verdict)?;
             Ok(refused)
+        }
+        Err(LoadRefusal::TooLarge(error)) => {
+            write_too_large(out, options.lines, options.detail, error)
         }
     }
 }

@@ -38,7 +38,8 @@ const STATUSES: &str = "
 
 Status: 0 valid; 1 invalid; 2 malformed, or an unknown option, proposal or function; 3 out of memory,
 or a read or write failed; 4 not covered: nothing is refused, but there are vector operators; 5 a
-file can't be read. If several hold, it is the first of 3, 5, 2, 1, 4.
+file can't be read; 7 too large: what a module declares is past a limit of this implementation. If
+several hold, it is the first of 3, 5, 2, 1, 7, 4.
 ";
 
 /// The version of the program.

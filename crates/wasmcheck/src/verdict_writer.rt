@@ -1,7 +1,7 @@
 //! What a module comes to as it is checked, and what is written of it.
 
 ghost use Rattle.std.specs.Prelude.{◌≡◌, ◌⊎◌, ℕ, IfOk};
-ghost use Rattle.module_check.specs.declared.outcome.Outcome.TheVariants.{Valid, NotCovered};
+ghost use Rattle.module_check.specs.declared.outcome.Outcome.TheVariants.{Valid, NotCovered, TooLarge};
 ghost use Rattle.module_check.specs.declared.verdict.Verdict.TheVariants.{Accepted, NotCovered as Uncovered};
 
 use crate::lines::{Counts, Finding, Lines, Summary};
@@ -10,6 +10,7 @@ use crate::written::Written;
 use module_check::{Outcome, Verdict};
 use std::io;
 use std::io::Write;
+use validate_types::Error;
 
 /// What a module comes to, as far as it is checked.
 #[derive(Clone, Copy)]
@@ -93,11 +94,16 @@ pub fn write_summary<W: Write>(
 }
 
 /// What is found of a module as a whole.
-fn finding_of_module<'r>(verdict: &'r Verdict, shown: &'r Written) -> Finding<'r> {
+fn finding_of_module<'r>(
+    outcome: Outcome,
+    verdict: &'r Verdict,
+    shown: &'r Written,
+) -> Finding<'r> {
     Finding {
         item: None,
         name: None,
         operator: None,
+        outcome,
         verdict,
         shown,
     }
@@ -108,13 +114,14 @@ fn write_refusal<W: Write>(
     out: &mut W,
     lines: Lines<'_>,
     detail: Detail,
+    outcome: Outcome,
     verdict: &Verdict,
 ) -> io::Result<()> {
     if let Detail::Quiet = detail {
         return Ok(());
     }
     let shown = Written::new(lines.alloc);
-    lines.write_finding(out, &finding_of_module(verdict, &shown))
+    lines.write_finding(out, &finding_of_module(outcome, verdict, &shown))
 }
 
 /// Writes why the module as a whole isn't checked, and what it comes to, which it answers.
@@ -128,8 +135,23 @@ pub fn write_module<W: Write>(
     ensures uncovered { IfOk result (λ outcome. outcome ≡ NotCovered
         → (offset : ℕ) × (verdict.now ≡ Uncovered offset)) }
 {
-    write_refusal(out, lines, detail, verdict)?;
     let outcome = Outcome::of(verdict);
+    write_refusal(out, lines, detail, outcome, verdict)?;
+    write_summary(out, lines, detail, outcome, None)?;
+    Ok(outcome)
+}
+
+/// Writes which limit the module is past, and what it comes to, which it answers.
+pub fn write_too_large<W: Write>(
+    out: &mut W,
+    lines: Lines<'_>,
+    detail: Detail,
+    error: Error,
+) -> io::Result<Outcome>
+    ensures { IfOk result (λ outcome. outcome ≡ TooLarge) }
+{
+    let outcome = Outcome::TooLarge;
+    write_refusal(out, lines, detail, outcome, &Verdict::Refused(error))?;
     write_summary(out, lines, detail, outcome, None)?;
     Ok(outcome)
 }

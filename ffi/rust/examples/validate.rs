@@ -1,5 +1,5 @@
 //! Checks each module that is named, with upstream's default proposals on, and prints what isn't accepted, and counts.
-//! After `-f INDEX` it checks only the body of the function at that index. It ends with the greatest status, or with 7
+//! After `-f INDEX` it checks only the body of the function at that index. It ends with the greatest status, or with 8
 //! if a file can't be read or a word isn't known.
 
 use std::ffi::{OsStr, OsString};
@@ -7,7 +7,7 @@ use std::path::Path;
 use std::process::ExitCode;
 use tansyattic::{Error, ErrorKind, Module, Summary, version};
 
-const FAILED: u8 = 7;
+const FAILED: u8 = 8;
 
 /// The status of C for the kind.
 fn status_of(error: &Error) -> u8 {
@@ -16,6 +16,7 @@ fn status_of(error: &Error) -> u8 {
         ErrorKind::Malformed => 2,
         ErrorKind::NotCovered => 4,
         ErrorKind::NoBody => 5,
+        ErrorKind::TooLarge => 7,
         _ => 3,
     }
 }

@@ -25,6 +25,8 @@ pub enum ErrorKind {
     NotCovered,
     /// The module has no body for the function: it is imported, isn't there, or was declared without bodies.
     NoBody,
+    /// What the module declares is past a limit of this library. Whether it is valid isn't told.
+    TooLarge,
 }
 
 /// What an error is about.
@@ -184,6 +186,7 @@ impl Error {
             2 => ErrorKind::Malformed,
             4 => ErrorKind::NotCovered,
             5 => ErrorKind::NoBody,
+            7 => ErrorKind::TooLarge,
             _ => ErrorKind::OutOfMemory,
         };
         let item = match verdict.kind {

@@ -66,6 +66,17 @@ fn is_malformed() {
 }
 
 #[test]
+fn is_too_large() {
+    let tables = module(&[&b"\x04\xb0\x02\x65"[..], &b"\x70\0\0".repeat(101)].concat());
+    let error = validate(&tables).unwrap_err();
+    let text = "tables count exceeds limit of 100";
+    assert_eq!(
+        parts(&error),
+        (ErrorKind::TooLarge, Item::Module, 0x138, text)
+    );
+}
+
+#[test]
 fn has_each_function_by_its_index() {
     let bytes = imported();
     let module = Module::parse(&bytes).unwrap();

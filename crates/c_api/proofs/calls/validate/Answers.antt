@@ -1,7 +1,7 @@
 -- Where the status is 0, the module was read, and is valid; where it is 4, something isn't covered.
 use Rattle.std.proofs.Common.{sym, ◌∙◌, inl, inr}
 use Rattle.c_api.proofs.Answered.{not_before}
-use Rattle.c_api.proofs.Bytes.{read_valid, read_uncovered}
+use Rattle.c_api.proofs.Bytes.{read_valid, read_uncovered, read_too_large}
 use Rattle.c_api.proofs.calls.validate.Goals as goal
 
 pub returns-clause-valid : goal.returns-clause-valid
@@ -15,3 +15,8 @@ returns-clause-uncovered c = λ four.
       | inl before ↦ absurd (not_before c.new.result.status c.new.ensures.accepted before)
       | inr this ↦ read_uncovered c.args.bytes.now c.args.features c.read.result c.read.ensures.loaded c.read.ensures.uncovered this
     ]
+
+pub returns-clause-too_large : goal.returns-clause-too_large
+returns-clause-too_large c = λ seven.
+    read_too_large c.args.bytes.now c.read.result c.read.ensures.too_large
+    (c.check_read.ensures.too_large c.new.ensures.accepted (sym c.status_of.ensures ∙ seven))

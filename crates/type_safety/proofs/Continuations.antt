@@ -1,8 +1,6 @@
 -- Operators on continuations keep what the law asks of operators: what a handler carries lies below the types
 -- of its label.
-use Rattle.std.proofs.Common.{◌≡◌, ℕ, zero, suc, Bool, true, List, [], ◌∷◌, ◌++◌, drop, map, Option, Some, None, refl, sym, ap, ◌∙◌, subst, slice_get}
-use Rattle.std.specs.List.{list_all}
-use Rattle.std.specs.Option.{option_and_then}
+use Rattle.std.proofs.Common.{◌≡◌, ℕ, zero, suc, Bool, true, List, [], ◌∷◌, ◌++◌, drop, map, Option, Some, refl, subst, slice_get}
 use Rattle.validate_resources.specs.Context.{IsLawful}
 use Rattle.validate_types.specs.Refs.{nullable_reference, non_null_reference}
 use Rattle.validate_types.specs.declared.heap.HeapType.TheVariants.{Concrete}
@@ -10,12 +8,11 @@ use Rattle.validate_visit.specs.declared.op.ContinuationOp.{ContinuationOp}
 use Rattle.validate_visit.specs.declared.op.ContinuationOp.TheVariants.{ContNew, ContBind, Suspend, Resume, ResumeThrow, ResumeThrowRef, Switch}
 use Rattle.validate_visit.specs.declared.resume.Handle.{Handle}
 use Rattle.validation_rules.specs.Casts.{split_last}
-use Rattle.validation_rules.specs.Context.{Signature, ValType, Ref, Context, AllBelow}
-use Rattle.validation_rules.specs.Continuations.{continuation_type, continuation_signature, referenced_continuation, all_clauses, clause_target, bound_count, resumed_row, resuming_row, switch_types, switched_row, continuation_row}
+use Rattle.validation_rules.specs.Context.{Signature, ValType, Ref, Context}
+use Rattle.validation_rules.specs.Continuations.{continuation_type, continuation_signature, referenced_continuation, all_clauses, clause_target, resumed_row, resuming_row, continuation_row}
 use Rattle.validation_rules.specs.Exceptions.{exception, exception_types}
-use Rattle.validation_rules.specs.Fits.{MaybeType, Known, all_fit}
 use Rattle.validation_rules.specs.Indirect.{type_reference}
-use Rattle.validation_rules.specs.Operators.{plain_row_if, lookup_row, lookups_row, staying_operator}
+use Rattle.validation_rules.specs.Operators.{plain_row_if, lookups_row, staying_operator}
 use Rattle.validation_rules.specs.Rows.{Head, Clause, Target, Row}
 use Rattle.validation_rules.specs.Static.{label_accepts, clause_fits, clauses_fit}
 use Rattle.validation_rules.proofs.Below.{and_true, below_of_fit}

@@ -25,7 +25,7 @@ use Rattle.type_safety.specs.Machine.Outcome.{traps, raises, suspends}
 use Rattle.type_safety.proofs.Outcomes.{holding, by_going_on, by_entering, by_entering_else, by_skipping, by_jumping, by_closing, by_ending_part, by_catching, by_catching_legacy}
 use Rattle.type_safety.specs.Theorem.{LabelsBelow, IsAsValidated, IsTypeSafe}
 use Rattle.type_safety.proofs.Bodies.{body_safety}
-use Rattle.type_safety.proofs.ExampleWords.{label, outermost, only, opens_no_if, the_demand}
+use Rattle.type_safety.proofs.ExampleWords.{label, outermost, only, opens_no_if, the_demand, demands_operands, none_there, opens_nothing, is_no_value}
 
 abbrev types : List SubType
 types = func_type [] [] ∷ func_type (I32 ∷ []) [] ∷ func_type (I32 ∷ []) (I32 ∷ []) ∷ []
@@ -66,7 +66,7 @@ adding_1 : Step cx adding (initial_machine one_to_one) (adding_at 1 (I32 ∷ [])
 adding_1 = (
   operator cx (local_get 0),
   refl,
-  record { row = holding _ refl refl; targets = λ j t e. absurd cc; clauses = λ j c e. absurd cc; no_else = λ h e. absurd cc },
+  demands_operands (holding _ refl refl) refl refl refl,
   by_going_on (I32 ∷ []) (I32 ∷ []) refl refl refl (refl, tt) refl,
 )
 
@@ -74,7 +74,7 @@ adding_2 : Step cx adding (adding_at 1 (I32 ∷ [])) (adding_at 2 (I32 ∷ I32 �
 adding_2 = (
   operator cx (Numeric (I32Const (pos 1))),
   refl,
-  record { row = holding _ refl refl; targets = λ j t e. absurd cc; clauses = λ j c e. absurd cc; no_else = λ h e. absurd cc },
+  demands_operands (holding _ refl refl) refl refl refl,
   by_going_on (I32 ∷ []) (I32 ∷ []) refl refl refl (refl, tt) refl,
 )
 
@@ -82,7 +82,7 @@ adding_3 : Step cx adding (adding_at 2 (I32 ∷ I32 ∷ [])) (adding_at 3 (I32 �
 adding_3 = (
   operator cx (Numeric (IntegerBinary IntegerI32 Add)),
   refl,
-  record { row = holding _ refl refl; targets = λ j t e. absurd cc; clauses = λ j c e. absurd cc; no_else = λ h e. absurd cc },
+  demands_operands (holding _ refl refl) refl refl refl,
   by_going_on (I32 ∷ []) (I32 ∷ []) refl refl refl (refl, tt) refl,
 )
 
@@ -90,7 +90,7 @@ adding_4 : Step cx adding (adding_at 3 (I32 ∷ [])) (Returned (I32 ∷ []))
 adding_4 = (
   operator cx (end),
   refl,
-  record { row = holding _ refl refl; targets = λ j t e. absurd cc; clauses = λ j c e. absurd cc; no_else = λ h e. absurd cc },
+  demands_operands (holding _ refl refl) refl refl refl,
   by_closing (I32 ∷ []) refl (refl, tt) refl,
 )
 
@@ -99,14 +99,14 @@ adding_returns = (adding_at 3 (I32 ∷ []), (adding_at 2 (I32 ∷ I32 ∷ []), (
 
 -- any operator may trap
 adding_traps : Step cx adding (initial_machine one_to_one) Trapped
-adding_traps = (operator cx (local_get 0), refl, record { row = holding _ refl refl; targets = λ j t e. absurd cc; clauses = λ j c e. absurd cc; no_else = λ h e. absurd cc }, traps refl)
+adding_traps = (operator cx (local_get 0), refl, demands_operands (holding _ refl refl) refl refl refl, traps refl)
 
 -- or leave, by an exception that nothing catches, or by a suspension
 adding_raises : Step cx adding (initial_machine one_to_one) LeftByException
-adding_raises = (operator cx (local_get 0), refl, record { row = holding _ refl refl; targets = λ j t e. absurd cc; clauses = λ j c e. absurd cc; no_else = λ h e. absurd cc }, raises refl)
+adding_raises = (operator cx (local_get 0), refl, demands_operands (holding _ refl refl) refl refl refl, raises refl)
 
 adding_suspends : Step cx adding (initial_machine one_to_one) LeftBySuspension
-adding_suspends = (operator cx (local_get 0), refl, record { row = holding _ refl refl; targets = λ j t e. absurd cc; clauses = λ j c e. absurd cc; no_else = λ h e. absurd cc }, suspends refl)
+adding_suspends = (operator cx (local_get 0), refl, demands_operands (holding _ refl refl) refl refl refl, suspends refl)
 
 -- no run of it is stuck, however long
 adding_safe : IsTypeSafe cx adding one_to_one
@@ -119,31 +119,28 @@ stuck_at_once : IsNotStuck cx (operators cx (Numeric (IntegerBinary IntegerI32 A
 stuck_at_once d =
     let e : operator cx (Numeric (IntegerBinary IntegerI32 Add)) ≡ d.0 = some_injective _ _ d.1 in
     let d' = subst (λ op. Demand cx (operators cx (Numeric (IntegerBinary IntegerI32 Add) ∷ [])) (configuration 0 (outermost to_nothing []) [] [] op)) (sym e) d.2 in
-    let r = d'.row.1 in
-    absurd cc
+    is_no_value d'.row.1
 
 -- an operand has another type
 stuck_on_type : IsNotStuck cx (operators cx (Numeric (Eqz IntegerI32) ∷ [])) (At 0 (outermost to_nothing (I64 ∷ []) ∷ []) []) → ⊥
 stuck_on_type d =
     let e : operator cx (Numeric (Eqz IntegerI32)) ≡ d.0 = some_injective _ _ d.1 in
     let d' = subst (λ op. Demand cx (operators cx (Numeric (Eqz IntegerI32) ∷ [])) (configuration 0 (outermost to_nothing (I64 ∷ [])) [] [] op)) (sym e) d.2 in
-    let r = d'.row.1 in
-    absurd cc
+    is_no_value d'.row.1
 
 -- a local isn't set
 stuck_on_local : IsNotStuck cx (operators cx (local_get 1 ∷ [])) (initial_machine to_nothing) → ⊥
 stuck_on_local d =
     let e : operator cx (local_get 1) ≡ d.0 = some_injective _ _ d.1 in
     let d' = subst (λ op. Demand cx (operators cx (local_get 1 ∷ [])) (configuration 0 (outermost to_nothing []) [] [] op)) (sym e) d.2 in
-    let r = d'.row.1 in
-    absurd cc
+    is_no_value d'.row.1
 
 -- once the machine has set it, it is set
 reads_local : IsNotStuck cx (operators cx (local_get 1 ∷ [])) (At 0 (outermost to_nothing [] ∷ []) (1 ∷ []))
 reads_local = (
   operator cx (local_get 1),
   refl,
-  record { row = holding _ refl refl; targets = λ j t e. absurd cc; clauses = λ j c e. absurd cc; no_else = λ h e. absurd cc },
+  demands_operands (holding _ refl refl) refl refl refl,
 )
 
 -- the list has ended, and a label is open
@@ -155,8 +152,7 @@ stuck_on_label : IsNotStuck cx (operators cx (br 3 ∷ [])) (initial_machine to_
 stuck_on_label d =
     let e : operator cx (br 3) ≡ d.0 = some_injective _ _ d.1 in
     let d' = subst (λ op. Demand cx (operators cx (br 3 ∷ [])) (configuration 0 (outermost to_nothing []) [] [] op)) (sym e) d.2 in
-    let r = d'.row.1 in
-    absurd cc
+    is_no_value d'.row.1
 
 -- ---- a run that loops
 
@@ -177,7 +173,7 @@ to_loop : Step cx looping (initial_machine to_nothing) before_loop
 to_loop = (
   operator cx i32_const,
   refl,
-  record { row = holding _ refl refl; targets = λ j t e. absurd cc; clauses = λ j c e. absurd cc; no_else = λ h e. absurd cc },
+  demands_operands (holding _ refl refl) refl refl refl,
   by_going_on (I32 ∷ []) (I32 ∷ []) refl refl refl (refl, tt) refl,
 )
 
@@ -185,7 +181,7 @@ into_loop : Step cx looping before_loop in_loop
 into_loop = (
   operator cx (loop takes_one),
   refl,
-  record { row = holding _ refl refl; targets = λ j t e. absurd cc; clauses = λ j c e. absurd cc; no_else = λ h e i. absurd (opens_no_if _ h e refl i) },
+  record { row = holding _ refl refl; targets = λ j t e. absurd (none_there j e); clauses = λ j c e. absurd (none_there j e); no_else = λ h e i. absurd (opens_no_if _ h e refl i) },
   by_entering (record { kind = Loop; block_type = takes_one }) (I32 ∷ []) refl (refl, tt) refl,
 )
 
@@ -197,8 +193,8 @@ around = (
   record {
     row = holding _ refl refl;
     targets = only (λ (t : Target). LabelAccepts cx (drop t.depth (label 1 Loop takes_one (I32 ∷ []) ∷ outermost to_nothing [] ∷ [])) (t.carried (I32 ∷ []))) (target cx (label_heads (label 1 Loop takes_one (I32 ∷ []) ∷ outermost to_nothing [] ∷ [])) 0) (refl, tt);
-    clauses = λ j c e. absurd cc;
-    no_else = λ h e. absurd cc;
+    clauses = λ j c e. absurd (none_there j e);
+    no_else = λ h e. absurd (opens_nothing h e refl);
   },
   by_jumping 0 _ refl refl (record { label = label 1 Loop takes_one (I32 ∷ []); outer = outermost to_nothing [] ∷ []; is = refl; types = I32 ∷ []; below = (refl, tt); arrives = refl }),
 )
@@ -227,8 +223,8 @@ returns_from_inside = (
   record {
     row = holding _ refl refl;
     targets = only (λ (t : Target). LabelAccepts cx (drop t.depth (inside (I32 ∷ []))) (t.carried (I32 ∷ []))) (target cx (label_heads (inside [])) 1) (refl, tt);
-    clauses = λ j c e. absurd cc;
-    no_else = λ h e. absurd cc;
+    clauses = λ j c e. absurd (none_there j e);
+    no_else = λ h e. absurd (opens_nothing h e refl);
   },
   by_jumping 0 _ refl refl (record { label = outermost (Val I32) []; outer = []; is = refl; types = I32 ∷ []; below = (refl, tt); arrives = refl }),
 )
@@ -257,7 +253,7 @@ into_try = (
   refl,
   record {
     row = holding _ refl refl;
-    targets = λ j t e. absurd cc;
+    targets = λ j t e. absurd (none_there j e);
     clauses = only (λ (c : Clause). LabelAccepts cx (drop c.depth in_block) c.types) a_clause (refl, tt);
     no_else = λ h e i. absurd (opens_no_if _ h e refl i);
   },
@@ -269,7 +265,7 @@ caught : Step cx throwing (in_try (I32 ∷ [])) (At 7 (outermost to_nothing (I32
 caught = (
   operator cx (throw 0),
   refl,
-  record { row = holding _ refl refl; targets = λ j t e. absurd cc; clauses = λ j c e. absurd cc; no_else = λ h e. absurd cc },
+  demands_operands (holding _ refl refl) refl refl refl,
   by_catching 0 (label 1 TryTable Empty (I32 ∷ [])) in_block (operator cx (try_catching Empty)) 0 a_clause refl refl refl refl
       (record {
         label = label 0 Block (Val I32) [];
@@ -286,7 +282,7 @@ caught_early : Step cx throwing (At 2 (label 1 TryTable Empty [] ∷ in_block) [
 caught_early = (
   operator cx i32_const,
   refl,
-  record { row = holding _ refl refl; targets = λ j t e. absurd cc; clauses = λ j c e. absurd cc; no_else = λ h e. absurd cc },
+  demands_operands (holding _ refl refl) refl refl refl,
   by_catching 0 (label 1 TryTable Empty []) in_block (operator cx (try_catching Empty)) 0 a_clause refl refl refl refl
       (record {
         label = label 0 Block (Val I32) [];
@@ -309,7 +305,7 @@ caught_legacy : Step cx legacy (At 2 (label 0 LegacyTry Empty (I32 ∷ []) ∷ o
 caught_legacy = (
   operator cx (throw 0),
   refl,
-  record { row = holding _ refl refl; targets = λ j t e. absurd cc; clauses = λ j c e. absurd cc; no_else = λ h e. absurd cc },
+  demands_operands (holding _ refl refl) refl refl refl,
   by_catching_legacy 0 (label 0 LegacyTry Empty (I32 ∷ [])) (outermost to_nothing [] ∷ []) 3 false (I32 ∷ []) (I32 ∷ []) refl refl (0, refl) (refl, tt) refl,
 )
 
@@ -334,7 +330,7 @@ abbrev in_part : ℕ → ℕ → FrameKind → List ValType → Machine
 in_part k began kind own = At k (label began kind (Val I32) own ∷ outermost (Val I32) [] ∷ []) []
 
 demand_if : Demand cx choosing (configuration 1 (outermost (Val I32) (I32 ∷ [])) [] [] (operator cx (an_if (Val I32))))
-demand_if = record { row = holding _ refl refl; targets = λ j t e. absurd cc; clauses = λ j c e. absurd cc; no_else = λ h e i w. absurd cc }
+demand_if = record { row = holding _ refl refl; targets = λ j t e. absurd (none_there j e); clauses = λ j c e. absurd (none_there j e); no_else = λ h e i w. absurd cc }
 
 first_part : Step cx choosing at_if (in_part 2 1 If [])
 first_part = (operator cx (an_if (Val I32)), refl, demand_if, by_entering (record { kind = If; block_type = Val I32 }) [] refl tt refl)
@@ -348,7 +344,7 @@ passes_else : Step cx choosing (in_part 3 1 If (I32 ∷ [])) (At 6 (outermost (V
 passes_else = (
   operator cx an_else,
   refl,
-  record { row = holding _ refl refl; targets = λ j t e. absurd cc; clauses = λ j c e. absurd cc; no_else = λ h e. absurd cc },
+  demands_operands (holding _ refl refl) refl refl refl,
   by_ending_part 5 (I32 ∷ []) refl (Ends, (1, refl), refl) (refl, tt) refl,
 )
 
@@ -363,7 +359,7 @@ skips : Step cx skipping (At 1 (outermost to_nothing (I32 ∷ []) ∷ []) []) (A
 skips = (
   operator cx (an_if Empty),
   refl,
-  record { row = holding _ refl refl; targets = λ j t e. absurd cc; clauses = λ j c e. absurd cc; no_else = λ h e i w. nothing_given h e },
+  record { row = holding _ refl refl; targets = λ j t e. absurd (none_there j e); clauses = λ j c e. absurd (none_there j e); no_else = λ h e i w. nothing_given h e },
   by_skipping (record { kind = If; block_type = Empty }) 2 [] refl refl refl (Ends, (0, refl), refl) tt refl,
 )
   where
@@ -434,16 +430,15 @@ leaves = (
   record {
     row = holding _ refl refl;
     targets = only (λ (t : Target). LabelAccepts cx (drop t.depth (label 0 Block Empty [] ∷ outermost to_nothing [] ∷ [])) (t.carried [])) (target cx (label_heads (label 0 Block Empty [] ∷ outermost to_nothing [] ∷ [])) 0) tt;
-    clauses = λ j c e. absurd cc;
-    no_else = λ h e. absurd cc;
+    clauses = λ j c e. absurd (none_there j e);
+    no_else = λ h e. absurd (opens_nothing h e refl);
   },
   by_jumping 0 _ refl refl (record { label = label 0 Block Empty []; outer = outermost to_nothing [] ∷ []; is = refl; types = []; below = tt; arrives = (4, (Ends, (0, refl), refl), refl) }),
 )
 
 stuck_behind_block : IsNotStuck cx leaving (At 5 (outermost to_nothing [] ∷ []) []) → ⊥
 stuck_behind_block d =
-    let r = (the_demand cx leaving 5 (outermost to_nothing []) [] [] (operator cx gets_local) refl d).row.1 in
-    absurd cc
+    is_no_value (the_demand cx leaving 5 (outermost to_nothing []) [] [] (operator cx gets_local) refl d).row.1
 
 -- ---- what isn't type safe
 
@@ -501,7 +496,7 @@ pushes_below : Step tilted_context (operator tilted_context (i64_const) ∷ []) 
 pushes_below = (
   operator tilted_context (i64_const),
   refl,
-  record { row = holding _ refl refl; targets = λ j t e. absurd cc; clauses = λ j c e. absurd cc; no_else = λ h e. absurd cc },
+  demands_operands (holding _ refl refl) refl refl refl,
   by_going_on (I64 ∷ []) (I32 ∷ []) refl refl refl (refl, tt) refl,
 )
 
@@ -510,7 +505,7 @@ takes_below : IsNotStuck tilted_context (operator tilted_context (Numeric (Integ
 takes_below = (
   operator tilted_context (Numeric (IntegerBinary IntegerI64 Add)),
   refl,
-  record { row = holding _ refl refl; targets = λ j t e. absurd cc; clauses = λ j c e. absurd cc; no_else = λ h e. absurd cc },
+  demands_operands (holding _ refl refl) refl refl refl,
 )
 
 -- and not what lies above
@@ -518,15 +513,14 @@ takes_above : IsNotStuck tilted_context (operator tilted_context (Numeric (Eqz I
 takes_above d =
     let e : operator tilted_context (Numeric (Eqz IntegerI32)) ≡ d.0 = some_injective _ _ d.1 in
     let d' = subst (λ op. Demand tilted_context (operator tilted_context (Numeric (Eqz IntegerI32)) ∷ []) (configuration 0 (giving_i64 (I64 ∷ [])) [] [] op)) (sym e) d.2 in
-    let r = d'.row.1 in
-    absurd cc
+    is_no_value d'.row.1
 
 -- the results of a frame
 gives_below : Step tilted_context (operators tilted_context (end ∷ [])) (At 0 (giving_i64 (I64 ∷ []) ∷ []) []) (Returned (I32 ∷ []))
 gives_below = (
   operator tilted_context end,
   refl,
-  record { row = holding _ refl refl; targets = λ j t e. absurd cc; clauses = λ j c e. absurd cc; no_else = λ h e. absurd cc },
+  demands_operands (holding _ refl refl) refl refl refl,
   by_closing (I32 ∷ []) refl (refl, tt) refl,
 )
 
@@ -538,8 +532,8 @@ carries_below = (
   record {
     row = holding _ refl refl;
     targets = only (λ (t : Target). LabelAccepts tilted_context (drop t.depth (giving_i64 (I64 ∷ []) ∷ [])) (t.carried (I64 ∷ []))) (target tilted_context (label_heads (giving_i64 (I64 ∷ []) ∷ [])) 0) (refl, tt);
-    clauses = λ j c e. absurd cc;
-    no_else = λ h e. absurd cc;
+    clauses = λ j c e. absurd (none_there j e);
+    no_else = λ h e. absurd (opens_nothing h e refl);
   },
   by_jumping 0 _ refl refl (record { label = giving_i64 (I64 ∷ []); outer = []; is = refl; types = I32 ∷ []; below = (refl, tt); arrives = refl }),
 )

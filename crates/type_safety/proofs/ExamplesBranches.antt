@@ -19,7 +19,7 @@ use Rattle.type_safety.specs.Machine.{Label, label_heads, At, Returned, LabelAcc
 use Rattle.type_safety.proofs.Outcomes.{holding, by_going_on, by_jumping}
 use Rattle.type_safety.specs.Theorem.{IsTypeSafe}
 use Rattle.type_safety.proofs.Bodies.{body_safety}
-use Rattle.type_safety.proofs.ExampleWords.{label, outermost, only}
+use Rattle.type_safety.proofs.ExampleWords.{label, outermost, only, demands_operands, none_there, opens_nothing}
 
 abbrev types : List SubType
 types = func_type [] [] ∷ func_type (I32 ∷ []) (I64 ∷ []) ∷ []
@@ -56,8 +56,8 @@ at_test : Demand cx looping (configuration 3 (label 1 Loop i32_to_i64 (I32 ∷ I
 at_test = record {
   row = holding _ refl refl;
   targets = only (λ (t : Target). LabelAccepts cx (drop t.depth (in_loop (I32 ∷ I32 ∷ []))) (t.carried (I32 ∷ I32 ∷ []))) (target cx (label_heads (in_loop [])) 0) (refl, tt);
-  clauses = λ j c e. absurd cc;
-  no_else = λ h e. absurd cc;
+  clauses = λ j c e. absurd (none_there j e);
+  no_else = λ h e. absurd (opens_nothing h e refl);
 }
 
 -- back behind the opener, with the parameter alone
@@ -95,8 +95,8 @@ at_table : Demand cx choosing (configuration 4 (label 1 Block (Val I64) (I32 ∷
 at_table = record {
   row = holding _ refl refl;
   targets = each_of_two (λ (t : Target). LabelAccepts cx (drop t.depth (in_blocks (I32 ∷ I64 ∷ []))) (t.carried (I64 ∷ I32 ∷ []))) (target cx (label_heads (in_blocks [])) 0) (target cx (label_heads (in_blocks [])) 1) (refl, tt) (refl, tt);
-  clauses = λ j c e. absurd cc;
-  no_else = λ h e. absurd cc;
+  clauses = λ j c e. absurd (none_there j e);
+  no_else = λ h e. absurd (opens_nothing h e refl);
 }
 
 by_default : Step cx choosing (At 4 (in_blocks (I32 ∷ I64 ∷ [])) []) (At 6 (outer_block (I64 ∷ [])) [])
@@ -134,8 +134,8 @@ returns = (
   record {
     row = holding _ refl refl;
     targets = only (λ (t : Target). LabelAccepts cx (drop t.depth (label 0 Block (Val I64) (I32 ∷ I64 ∷ []) ∷ outermost (Val I32) [] ∷ [])) (t.carried (I32 ∷ []))) (target cx (label_heads (label 0 Block (Val I64) [] ∷ outermost (Val I32) [] ∷ [])) 1) (refl, tt);
-    clauses = λ j c e. absurd cc;
-    no_else = λ h e. absurd cc;
+    clauses = λ j c e. absurd (none_there j e);
+    no_else = λ h e. absurd (opens_nothing h e refl);
   },
   by_jumping 0 _ refl refl (record { label = outermost (Val I32) []; outer = []; is = refl; types = I32 ∷ []; below = (refl, tt); arrives = refl }),
 )
@@ -146,7 +146,7 @@ selects : Step cx (operators cx (Control Select ∷ [])) (At 0 (outermost to_not
 selects = (
   operator cx (Control Select),
   refl,
-  record { row = holding _ refl refl; targets = λ j t e. absurd cc; clauses = λ j c e. absurd cc; no_else = λ h e. absurd cc },
+  demands_operands (holding _ refl refl) refl refl refl,
   by_going_on (I64 ∷ []) (I64 ∷ []) refl refl refl (refl, tt) refl,
 )
 

@@ -1,6 +1,6 @@
 -- Runs of small bodies that call functions and access globals: what a tail call gives is what the body
 -- returns.
-use Rattle.std.proofs.Common.{◌≡◌, ℕ, ◌+◌, true, false, List, [], ◌∷◌, drop, refl, sym, subst}
+use Rattle.std.proofs.Common.{◌≡◌, ◌+◌, true, false, List, [], ◌∷◌, drop, refl, sym, subst}
 use Rattle.validate_resources.specs.Lists.{Declared, context_of}
 use Rattle.validate_resources.specs.Lawful.{lawful_lists}
 use Rattle.validate_resources.specs.Named.{nothing_declared}
@@ -19,7 +19,7 @@ use Rattle.type_safety.specs.Machine.{Label, At, Returned, LabelAccepts, Demand,
 use Rattle.type_safety.proofs.Outcomes.{holding, by_going_on, by_jumping}
 use Rattle.type_safety.specs.Theorem.{IsTypeSafe}
 use Rattle.type_safety.proofs.Bodies.{body_safety}
-use Rattle.type_safety.proofs.ExampleWords.{block_label, outermost, only}
+use Rattle.type_safety.proofs.ExampleWords.{block_label, outermost, only, demands_operands, none_there, opens_nothing, is_no_value}
 
 -- ---- functions 0 from i32 to i64, and 1 to both; a global i32, and one i64 that can be written
 
@@ -49,8 +49,8 @@ at_tail_call : Demand cx leaving (configuration 3 (in_block (I32 ∷ I32 ∷ [])
 at_tail_call = record {
   row = holding _ refl refl;
   targets = only (λ (t : Target). LabelAccepts cx (drop t.depth (in_block (I32 ∷ I32 ∷ []) ∷ in_body)) (t.carried (I32 ∷ []))) (record { depth = 1; carried = λ found. I64 ∷ [] }) (refl, tt);
-  clauses = λ j c e. absurd cc;
-  no_else = λ h e. absurd cc;
+  clauses = λ j c e. absurd (none_there j e);
+  no_else = λ h e. absurd (opens_nothing h e refl);
 }
 
 -- the body returns the function's result: neither its operand nor the block's result
@@ -67,8 +67,7 @@ stuck_at_tail_call : IsNotStuck cx leaving (At 3 (in_block [] ∷ in_body) []) �
 stuck_at_tail_call d =
     let e : operator cx (return_call 0) ≡ d.0 = some_injective _ _ d.1 in
     let d' = subst (λ op. Demand cx leaving (configuration 3 (in_block []) in_body [] op)) (sym e) d.2 in
-    let r = d'.row.1 in
-    absurd cc
+    is_no_value d'.row.1
 
 leaving_safe : IsTypeSafe cx leaving (Val I64)
 leaving_safe = body_safety (context_of declared) (lawful_lists declared refl) cx leaving_ops (Val I64) refl (Known I64 ∷ [], refl)
@@ -86,7 +85,7 @@ calls : Step cx calling (At 0 in_body []) (At 1 (block_label 0 (Val I64) (I64 �
 calls = (
   operator cx (call 1),
   refl,
-  record { row = holding _ refl refl; targets = λ j t e. absurd cc; clauses = λ j c e. absurd cc; no_else = λ h e. absurd cc },
+  demands_operands (holding _ refl refl) refl refl refl,
   by_going_on (I32 ∷ I64 ∷ []) (I32 ∷ I64 ∷ []) refl refl refl (refl, (refl, tt)) refl,
 )
 
@@ -94,7 +93,7 @@ sets : Step cx calling (At 1 (block_label 0 (Val I64) (I64 ∷ I32 ∷ []) ∷ [
 sets = (
   operator cx (Control (GlobalSet 1)),
   refl,
-  record { row = holding _ refl refl; targets = λ j t e. absurd cc; clauses = λ j c e. absurd cc; no_else = λ h e. absurd cc },
+  demands_operands (holding _ refl refl) refl refl refl,
   by_going_on [] [] refl refl refl tt refl,
 )
 

@@ -1,6 +1,6 @@
 -- Runs of small bodies with branches by a cast and operators that look below an abstract type: what a
 -- machine may do there, with which types, and where it is stuck.
-use Rattle.std.proofs.Common.{◌≡◌, ℕ, ◌+◌, true, false, List, [], ◌∷◌, drop, refl, sym, subst}
+use Rattle.std.proofs.Common.{◌≡◌, ◌+◌, true, false, List, [], ◌∷◌, drop, refl, sym, subst}
 use Rattle.validate_resources.specs.Lists.{Declared, context_of}
 use Rattle.validate_resources.specs.Lawful.{lawful_lists}
 use Rattle.validate_resources.specs.Named.{nothing_declared}
@@ -22,7 +22,7 @@ use Rattle.type_safety.specs.Machine.{Label, At, LabelAccepts, Demand, configura
 use Rattle.type_safety.proofs.Outcomes.{holding, by_going_on, by_jumping}
 use Rattle.type_safety.specs.Theorem.{IsTypeSafe}
 use Rattle.type_safety.proofs.Bodies.{body_safety}
-use Rattle.type_safety.proofs.ExampleWords.{block_label, outermost, only}
+use Rattle.type_safety.proofs.ExampleWords.{block_label, outermost, only, demands_operands, none_there, opens_nothing, is_no_value}
 
 -- ---- a function from nothing to nothing, a type of an i32 and any reference, and a struct
 
@@ -74,8 +74,8 @@ at_cast : Demand cx casting (configuration 3 (block_label 0 to_i32_and_any (null
 at_cast = record {
   row = holding _ refl refl;
   targets = only (λ t. Accepts t) (carrying (null (abstract I31))) (refl, (refl, tt));
-  clauses = λ j c e. absurd cc;
-  no_else = λ h e. absurd cc;
+  clauses = λ j c e. absurd (none_there j e);
+  no_else = λ h e. absurd (opens_nothing h e refl);
 }
 
 -- it is an i31, or null: behind the block, with it
@@ -117,8 +117,8 @@ at_fail : Demand cx failing (configuration 3 (block_label 0 to_i32_and_any (null
 at_fail = record {
   row = holding _ refl refl;
   targets = only (λ t. Accepts t) (carrying (no_null (abstract Any))) (refl, (refl, tt));
-  clauses = λ j c e. absurd cc;
-  no_else = λ h e. absurd cc;
+  clauses = λ j c e. absurd (none_there j e);
+  no_else = λ h e. absurd (opens_nothing h e refl);
 }
 
 -- the cast fails: behind the block, with what isn't null
@@ -144,24 +144,21 @@ stuck_at_number : IsNotStuck cx casting (At 3 (in_block (I32 ∷ I32 ∷ [])) []
 stuck_at_number d =
     let e : operator cx br_on_cast ≡ d.0 = some_injective _ _ d.1 in
     let d' = subst (λ op. Demand cx casting (configuration 3 (block_label 0 to_i32_and_any (I32 ∷ I32 ∷ [])) (in_body []) [] op)) (sym e) d.2 in
-    let r = d'.row.1 in
-    absurd cc
+    is_no_value d'.row.1
 
 -- and with a reference of another hierarchy
 stuck_at_extern : IsNotStuck cx casting (At 3 (in_block (null (abstract Extern) ∷ I32 ∷ [])) []) → ⊥
 stuck_at_extern d =
     let e : operator cx br_on_cast ≡ d.0 = some_injective _ _ d.1 in
     let d' = subst (λ op. Demand cx casting (configuration 3 (block_label 0 to_i32_and_any (null (abstract Extern) ∷ I32 ∷ [])) (in_body []) [] op)) (sym e) d.2 in
-    let r = d'.row.1 in
-    absurd cc
+    is_no_value d'.row.1
 
 -- and with another type below it
 stuck_over_other : IsNotStuck cx failing (At 3 (in_block (null (abstract Any) ∷ I64 ∷ [])) []) → ⊥
 stuck_over_other d =
     let e : operator cx br_on_cast_fail ≡ d.0 = some_injective _ _ d.1 in
     let d' = subst (λ op. Demand cx failing (configuration 3 (block_label 0 to_i32_and_any (null (abstract Any) ∷ I64 ∷ [])) (in_body []) [] op)) (sym e) d.2 in
-    let r = d'.row.1 in
-    absurd cc
+    is_no_value d'.row.1
 
 casting_safe : IsTypeSafe cx casting to_nothing
 casting_safe = body_safety (context_of declared) (lawful_lists declared refl) cx (ops_with br_on_cast) to_nothing refl ([], refl)
@@ -193,7 +190,7 @@ compares : Step cx looking (At 2 (in_body (no_null (concrete 2) ∷ null (abstra
 compares = (
   operator cx (Reference RefEq),
   refl,
-  record { row = holding _ refl refl; targets = λ j t e. absurd cc; clauses = λ j c e. absurd cc; no_else = λ h e. absurd cc },
+  demands_operands (holding _ refl refl) refl refl refl,
   by_going_on (I32 ∷ []) (I32 ∷ []) refl refl refl (refl, tt) refl,
 )
 
@@ -202,15 +199,14 @@ stuck_at_shared : IsNotStuck cx looking (At 2 (in_body (null (shared EqHeap) ∷
 stuck_at_shared d =
     let e : operator cx (Reference RefEq) ≡ d.0 = some_injective _ _ d.1 in
     let d' = subst (λ op. Demand cx looking (configuration 2 (block_label 0 to_nothing (null (shared EqHeap) ∷ null (abstract EqHeap) ∷ [])) [] [] op)) (sym e) d.2 in
-    let r = d'.row.1 in
-    absurd cc
+    is_no_value d'.row.1
 
 -- without null and shared it stays so
 converts : Step cx looking (At 5 (in_body (no_null (shared Extern) ∷ [])) []) (At 6 (in_body (no_null (shared Any) ∷ [])) [])
 converts = (
   operator cx (Reference AnyConvertExtern),
   refl,
-  record { row = holding _ refl refl; targets = λ j t e. absurd cc; clauses = λ j c e. absurd cc; no_else = λ h e. absurd cc },
+  demands_operands (holding _ refl refl) refl refl refl,
   by_going_on (no_null (shared Any) ∷ []) (no_null (shared Any) ∷ []) refl refl refl (refl, tt) refl,
 )
 

@@ -18,7 +18,7 @@ use Rattle.type_safety.specs.Machine.Outcome.{suspends}
 use Rattle.type_safety.proofs.Outcomes.{holding, by_going_on, by_jumping}
 use Rattle.type_safety.specs.Theorem.{IsTypeSafe}
 use Rattle.type_safety.proofs.Bodies.{body_safety}
-use Rattle.type_safety.proofs.ExampleWords.{block_label, outermost, only, the_demand}
+use Rattle.type_safety.proofs.ExampleWords.{block_label, outermost, only, the_demand, demands_operands, none_there, opens_nothing, is_no_value}
 
 -- ---- continuations that take an i32 and give an f32; tag 0 carries an i32, and gives an i64 back
 
@@ -73,8 +73,8 @@ at_resume : Demand cx resuming (configuration 3 (block_label 0 i32_and_cont (to 
 at_resume = record {
   row = holding _ refl refl;
   targets = only (λ (t : Target). LabelAccepts cx (drop t.depth (in_block (to 1 ∷ I32 ∷ []))) (t.carried (I32 ∷ to 1 ∷ []))) a_target (refl, (refl, tt));
-  clauses = λ j c e. absurd cc;
-  no_else = λ h e. absurd cc;
+  clauses = λ j c e. absurd (none_there j e);
+  no_else = λ h e. absurd (opens_nothing h e refl);
 }
 
 -- to its end: on with the results
@@ -108,7 +108,7 @@ switched : Step cx switching (At 2 (outermost Empty (null_to 5 ∷ I32 ∷ []) �
 switched = (
   operator cx (Continuation (Switch 5 1)),
   refl,
-  record { row = holding _ refl refl; targets = λ j t e. absurd cc; clauses = λ j c e. absurd cc; no_else = λ h e. absurd cc },
+  demands_operands (holding _ refl refl) refl refl refl,
   by_going_on (I32 ∷ []) (I32 ∷ []) refl refl refl (refl, tt) refl,
 )
 
@@ -116,12 +116,12 @@ bound : Step cx switching (At 4 (outermost Empty (null_to 1 ∷ I32 ∷ []) ∷ 
 bound = (
   operator cx (Continuation (ContBind 1 8)),
   refl,
-  record { row = holding _ refl refl; targets = λ j t e. absurd cc; clauses = λ j c e. absurd cc; no_else = λ h e. absurd cc },
+  demands_operands (holding _ refl refl) refl refl refl,
   by_going_on (to 8 ∷ []) (to 8 ∷ []) refl refl refl (refl, tt) refl,
 )
 
 at_suspend : Demand cx switching (configuration 7 (outermost Empty (I32 ∷ [])) [] [] (operator cx (Continuation (Suspend 0))))
-at_suspend = record { row = holding _ refl refl; targets = λ j t e. absurd cc; clauses = λ j c e. absurd cc; no_else = λ h e. absurd cc }
+at_suspend = demands_operands (holding _ refl refl) refl refl refl
 
 -- the body is left, or resumed with what is given back
 leaves : Step cx switching (At 7 (outermost Empty (I32 ∷ []) ∷ []) []) LeftBySuspension
@@ -138,23 +138,19 @@ switching_safe = body_safety (context_of declared) (lawful_lists declared refl) 
 -- without what the continuation takes
 stuck_at_resume : IsNotStuck cx (operators cx (resume 1 [] ∷ [])) (At 0 (outermost Empty (to 1 ∷ []) ∷ []) []) → ⊥
 stuck_at_resume d =
-    let r = (the_demand cx _ 0 (outermost Empty (to 1 ∷ [])) [] [] (operator cx (resume 1 [])) refl d).row.1 in
-    absurd cc
+    is_no_value (the_demand cx _ 0 (outermost Empty (to 1 ∷ [])) [] [] (operator cx (resume 1 [])) refl d).row.1
 
 -- over a continuation of another type
 stuck_at_other : IsNotStuck cx (operators cx (resume 1 [] ∷ [])) (At 0 (outermost Empty (to 3 ∷ I32 ∷ []) ∷ []) []) → ⊥
 stuck_at_other d =
-    let r = (the_demand cx _ 0 (outermost Empty (to 3 ∷ I32 ∷ [])) [] [] (operator cx (resume 1 [])) refl d).row.1 in
-    absurd cc
+    is_no_value (the_demand cx _ 0 (outermost Empty (to 3 ∷ I32 ∷ [])) [] [] (operator cx (resume 1 [])) refl d).row.1
 
 -- over a function in its place
 stuck_at_new : IsNotStuck cx (operators cx (Continuation (ContNew 1) ∷ [])) (At 0 (outermost Empty (to 2 ∷ []) ∷ []) []) → ⊥
 stuck_at_new d =
-    let r = (the_demand cx _ 0 (outermost Empty (to 2 ∷ [])) [] [] (operator cx (Continuation (ContNew 1))) refl d).row.1 in
-    absurd cc
+    is_no_value (the_demand cx _ 0 (outermost Empty (to 2 ∷ [])) [] [] (operator cx (Continuation (ContNew 1))) refl d).row.1
 
 -- with a handler whose label has no place for the continuation
 stuck_at_handler : IsNotStuck cx (operators cx (resume 1 (OnLabel 0 0 ∷ []) ∷ [])) (At 0 (block_label 0 (Val I32) (to 1 ∷ I32 ∷ []) ∷ outermost Empty [] ∷ []) []) → ⊥
 stuck_at_handler d =
-    let r = (the_demand cx _ 0 (block_label 0 (Val I32) (to 1 ∷ I32 ∷ [])) (outermost Empty [] ∷ []) [] (operator cx (resume 1 (OnLabel 0 0 ∷ []))) refl d).row.1 in
-    absurd cc
+    is_no_value (the_demand cx _ 0 (block_label 0 (Val I32) (to 1 ∷ I32 ∷ [])) (outermost Empty [] ∷ []) [] (operator cx (resume 1 (OnLabel 0 0 ∷ []))) refl d).row.1

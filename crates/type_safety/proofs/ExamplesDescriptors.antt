@@ -1,6 +1,6 @@
 -- Runs of small bodies with exact references and descriptors: what a machine may do there, with which types, and
 -- where it is stuck.
-use Rattle.std.proofs.Common.{◌≡◌, ℕ, true, false, List, [], ◌∷◌, drop, Option, Some, None, refl, sym, subst}
+use Rattle.std.proofs.Common.{◌≡◌, true, false, List, [], ◌∷◌, drop, Option, Some, None, refl, sym, subst}
 use Rattle.validate_resources.specs.Lists.{Declared, context_of}
 use Rattle.validate_resources.specs.Lawful.{lawful_lists}
 use Rattle.validate_resources.specs.Named.{nothing_declared}
@@ -29,7 +29,7 @@ use Rattle.type_safety.specs.Machine.{Label, At, LabelAccepts, Demand, configura
 use Rattle.type_safety.proofs.Outcomes.{holding, by_going_on, by_jumping}
 use Rattle.type_safety.specs.Theorem.{IsTypeSafe}
 use Rattle.type_safety.proofs.Bodies.{body_safety}
-use Rattle.type_safety.proofs.ExampleWords.{block_label, outermost, only}
+use Rattle.type_safety.proofs.ExampleWords.{block_label, outermost, only, demands_operands, none_there, opens_nothing, is_no_value}
 
 -- ---- a function from nothing to nothing, a struct 1 with descriptors of type 2, and a reference to 1
 
@@ -83,7 +83,7 @@ reads_exact : Step cx reading (At 2 (in_body (no_null (exact 1) ∷ [])) []) (At
 reads_exact = (
   operator cx get_desc,
   refl,
-  record { row = holding _ refl refl; targets = λ j t e. absurd cc; clauses = λ j c e. absurd cc; no_else = λ h e. absurd cc },
+  demands_operands (holding _ refl refl) refl refl refl,
   by_going_on (no_null (exact 2) ∷ []) (no_null (exact 2) ∷ []) refl refl refl (refl, tt) refl,
 )
 
@@ -92,7 +92,7 @@ reads_of_none : Step cx reading (At 2 (in_body (no_null (abstract NoneHeap) ∷ 
 reads_of_none = (
   operator cx get_desc,
   refl,
-  record { row = holding _ refl refl; targets = λ j t e. absurd cc; clauses = λ j c e. absurd cc; no_else = λ h e. absurd cc },
+  demands_operands (holding _ refl refl) refl refl refl,
   by_going_on (no_null (exact 2) ∷ []) (no_null (exact 2) ∷ []) refl refl refl (refl, tt) refl,
 )
 
@@ -101,7 +101,7 @@ reads_below : Step cx reading (At 2 (in_body (null (concrete 1) ∷ [])) []) (At
 reads_below = (
   operator cx get_desc,
   refl,
-  record { row = holding _ refl refl; targets = λ j t e. absurd cc; clauses = λ j c e. absurd cc; no_else = λ h e. absurd cc },
+  demands_operands (holding _ refl refl) refl refl refl,
   by_going_on (no_null (concrete 2) ∷ []) (no_null (exact 2) ∷ []) refl refl refl (refl, tt) refl,
 )
 
@@ -110,15 +110,14 @@ stuck_at_descriptor : IsNotStuck cx reading (At 3 (in_body (no_null (concrete 2)
 stuck_at_descriptor d =
     let e : operator cx new_described ≡ d.0 = some_injective _ _ d.1 in
     let d' = subst (λ op. Demand cx reading (configuration 3 (block_label 0 to_nothing (no_null (concrete 2) ∷ [])) [] [] op)) (sym e) d.2 in
-    let r = d'.row.1 in
-    absurd cc
+    is_no_value d'.row.1
 
 -- and cast to an exact type by such a one, above it
 casts : Step cx reading (At 5 (in_body (null (exact 2) ∷ no_null (exact 1) ∷ [])) []) (At 6 (in_body (no_null (exact 1) ∷ [])) [])
 casts = (
   operator cx cast_desc,
   refl,
-  record { row = holding _ refl refl; targets = λ j t e. absurd cc; clauses = λ j c e. absurd cc; no_else = λ h e. absurd cc },
+  demands_operands (holding _ refl refl) refl refl refl,
   by_going_on (no_null (exact 1) ∷ []) (no_null (exact 1) ∷ []) refl refl refl (refl, tt) refl,
 )
 
@@ -126,8 +125,7 @@ stuck_at_cast : IsNotStuck cx reading (At 5 (in_body (null (concrete 2) ∷ no_n
 stuck_at_cast d =
     let e : operator cx cast_desc ≡ d.0 = some_injective _ _ d.1 in
     let d' = subst (λ op. Demand cx reading (configuration 5 (block_label 0 to_nothing (null (concrete 2) ∷ no_null (exact 1) ∷ [])) [] [] op)) (sym e) d.2 in
-    let r = d'.row.1 in
-    absurd cc
+    is_no_value d'.row.1
 
 reading_safe : IsTypeSafe cx reading to_nothing
 reading_safe = body_safety (context_of declared) (lawful_lists declared refl) cx reading_ops to_nothing refl ([], refl)
@@ -154,8 +152,8 @@ at_branch : Demand cx branching (configuration 3 (block_label 0 to_described (no
 at_branch = record {
   row = holding _ refl refl;
   targets = only (λ t. Accepts t) carrying (refl, tt);
-  clauses = λ j c e. absurd cc;
-  no_else = λ h e. absurd cc;
+  clauses = λ j c e. absurd (none_there j e);
+  no_else = λ h e. absurd (opens_nothing h e refl);
 }
 
 -- behind the block, with an exact reference or with one to nothing
@@ -180,8 +178,7 @@ stuck_without_descriptor : IsNotStuck cx branching (At 3 (in_block (null (abstra
 stuck_without_descriptor d =
     let e : operator cx branch ≡ d.0 = some_injective _ _ d.1 in
     let d' = subst (λ op. Demand cx branching (configuration 3 (block_label 0 to_described (null (abstract Any) ∷ [])) (in_body []) [] op)) (sym e) d.2 in
-    let r = d'.row.1 in
-    absurd cc
+    is_no_value d'.row.1
 
 branching_safe : IsTypeSafe cx branching to_nothing
 branching_safe = body_safety (context_of declared) (lawful_lists declared refl) cx branching_ops to_nothing refl ([], refl)
@@ -203,7 +200,7 @@ reads_wrong : Step cx wrong_code (At 0 (in_body (no_null (abstract NoneHeap) ∷
 reads_wrong = (
   wrong,
   refl,
-  record { row = holding _ refl refl; targets = λ j t e. absurd cc; clauses = λ j c e. absurd cc; no_else = λ h e. absurd cc },
+  demands_operands (holding _ refl refl) refl refl refl,
   by_going_on (no_null (concrete 2) ∷ []) (no_null (concrete 2) ∷ []) refl refl refl (refl, tt) refl,
 )
 
@@ -211,5 +208,4 @@ stuck_behind_wrong : IsNotStuck cx wrong_code (At 1 (in_body (no_null (concrete 
 stuck_behind_wrong d =
     let e : operator cx new_described ≡ d.0 = some_injective _ _ d.1 in
     let d' = subst (λ op. Demand cx wrong_code (configuration 1 (block_label 0 to_nothing (no_null (concrete 2) ∷ [])) [] [] op)) (sym e) d.2 in
-    let r = d'.row.1 in
-    absurd cc
+    is_no_value d'.row.1

@@ -20,7 +20,7 @@ use Rattle.type_safety.specs.Machine.Outcome.{raises}
 use Rattle.type_safety.proofs.Outcomes.{holding, by_entering, by_catching, by_catching_legacy}
 use Rattle.type_safety.specs.Theorem.{IsTypeSafe}
 use Rattle.type_safety.proofs.Bodies.{body_safety}
-use Rattle.type_safety.proofs.ExampleWords.{label, outermost, only, opens_no_if, the_demand}
+use Rattle.type_safety.proofs.ExampleWords.{label, outermost, only, opens_no_if, the_demand, demands_operands, none_there, is_no_value}
 
 -- ---- exceptions that carry an i32, or nothing
 
@@ -59,7 +59,7 @@ a_clause = record { depth = 0; types = I32 ∷ no_null (abstract Exn) ∷ [] }
 demand_try : Demand cx catching (configuration 1 (label 0 Block to_i32_and_exn []) (outermost Empty [] ∷ []) [] (operator cx (try_table Empty (OneRef 0 0 ∷ []))))
 demand_try = record {
   row = holding _ refl refl;
-  targets = λ j t e. absurd cc;
+  targets = λ j t e. absurd (none_there j e);
   clauses = only (λ (c : Clause). LabelAccepts cx (drop c.depth in_block) c.types) a_clause (refl, (refl, tt));
   no_else = λ h e i. absurd (opens_no_if _ h e refl i);
 }
@@ -77,7 +77,7 @@ caught : Step cx catching (At 3 (in_try (I32 ∷ [])) []) (At 7 (outermost Empty
 caught = (
   operator cx (throw 0),
   refl,
-  record { row = holding _ refl refl; targets = λ j t e. absurd cc; clauses = λ j c e. absurd cc; no_else = λ h e. absurd cc },
+  demands_operands (holding _ refl refl) refl refl refl,
   by_catching 0 (label 1 TryTable Empty (I32 ∷ [])) in_block (operator cx (try_table Empty (OneRef 0 0 ∷ []))) 0 a_clause refl refl refl refl
       (record { label = label 0 Block to_i32_and_exn []; outer = outermost Empty [] ∷ []; is = refl; types = I32 ∷ no_null (abstract Exn) ∷ []; below = (refl, (refl, tt)); arrives = (6, (Ends, (0, refl), refl), refl) }),
 )
@@ -87,7 +87,7 @@ caught_below : Step cx catching (At 3 (in_try (I32 ∷ [])) []) (At 7 (outermost
 caught_below = (
   operator cx (throw 0),
   refl,
-  record { row = holding _ refl refl; targets = λ j t e. absurd cc; clauses = λ j c e. absurd cc; no_else = λ h e. absurd cc },
+  demands_operands (holding _ refl refl) refl refl refl,
   by_catching 0 (label 1 TryTable Empty (I32 ∷ [])) in_block (operator cx (try_table Empty (OneRef 0 0 ∷ []))) 0 a_clause refl refl refl refl
       (record { label = label 0 Block to_i32_and_exn []; outer = outermost Empty [] ∷ []; is = refl; types = I32 ∷ no_null (abstract NoExn) ∷ []; below = (refl, (refl, tt)); arrives = (6, (Ends, (0, refl), refl), refl) }),
 )
@@ -97,7 +97,7 @@ throws_again : Step cx catching (At 7 (outermost Empty (no_null (abstract Exn) �
 throws_again = (
   operator cx throw_ref,
   refl,
-  record { row = holding _ refl refl; targets = λ j t e. absurd cc; clauses = λ j c e. absurd cc; no_else = λ h e. absurd cc },
+  demands_operands (holding _ refl refl) refl refl refl,
   raises refl,
 )
 
@@ -128,7 +128,7 @@ leaves : Step cx leaving (At 2 (label 1 TryTable Empty [] ∷ in_leaving) []) (R
 leaves = (
   operator cx (throw 1),
   refl,
-  record { row = holding _ refl refl; targets = λ j t e. absurd cc; clauses = λ j c e. absurd cc; no_else = λ h e. absurd cc },
+  demands_operands (holding _ refl refl) refl refl refl,
   by_catching 0 (label 1 TryTable Empty []) in_leaving (operator cx (try_table Empty (All 1 ∷ AllRef 0 ∷ []))) 0 (record { depth = 1; types = [] }) refl refl refl refl
       (record { label = outermost Empty []; outer = []; is = refl; types = []; below = tt; arrives = refl }),
 )
@@ -138,7 +138,7 @@ caught_by_second : Step cx leaving (At 2 (label 1 TryTable Empty [] ∷ in_leavi
 caught_by_second = (
   operator cx (throw 1),
   refl,
-  record { row = holding _ refl refl; targets = λ j t e. absurd cc; clauses = λ j c e. absurd cc; no_else = λ h e. absurd cc },
+  demands_operands (holding _ refl refl) refl refl refl,
   by_catching 0 (label 1 TryTable Empty []) in_leaving (operator cx (try_table Empty (All 1 ∷ AllRef 0 ∷ []))) 1 (record { depth = 0; types = no_null (abstract Exn) ∷ [] }) refl refl refl refl
       (record { label = label 0 Block (Val (null (abstract Exn))) []; outer = outermost Empty [] ∷ []; is = refl; types = no_null (abstract Exn) ∷ []; below = (refl, tt); arrives = (5, (Ends, (0, refl), refl), refl) }),
 )
@@ -162,7 +162,7 @@ caught_legacy : Step cx legacy (At 2 (in_part 0 LegacyTry (I32 ∷ [])) []) (At 
 caught_legacy = (
   operator cx (throw 0),
   refl,
-  record { row = holding _ refl refl; targets = λ j t e. absurd cc; clauses = λ j c e. absurd cc; no_else = λ h e. absurd cc },
+  demands_operands (holding _ refl refl) refl refl refl,
   by_catching_legacy 0 (label 0 LegacyTry Empty (I32 ∷ [])) (outermost Empty [] ∷ []) 3 false (I32 ∷ []) (I32 ∷ []) refl refl (0, refl) (refl, tt) refl,
 )
 
@@ -170,7 +170,7 @@ caught_by_all : Step cx legacy (At 2 (in_part 0 LegacyTry (I32 ∷ [])) []) (At 
 caught_by_all = (
   operator cx (throw 0),
   refl,
-  record { row = holding _ refl refl; targets = λ j t e. absurd cc; clauses = λ j c e. absurd cc; no_else = λ h e. absurd cc },
+  demands_operands (holding _ refl refl) refl refl refl,
   by_catching_legacy 0 (label 0 LegacyTry Empty (I32 ∷ [])) (outermost Empty [] ∷ []) 5 true [] [] refl refl (1, refl) tt refl,
 )
 
@@ -178,7 +178,7 @@ rethrows : Step cx legacy (At 4 (in_part 3 LegacyCatch (I32 ∷ [])) []) LeftByE
 rethrows = (
   operator cx (rethrow 0),
   refl,
-  record { row = holding _ refl refl; targets = λ j t e. absurd cc; clauses = λ j c e. absurd cc; no_else = λ h e. absurd cc },
+  demands_operands (holding _ refl refl) refl refl refl,
   raises refl,
 )
 
@@ -217,7 +217,7 @@ delegates : Step cx delegating (At 2 (label 1 LegacyTry Empty [] ∷ in_part 0 L
 delegates = (
   operator cx (throw 1),
   refl,
-  record { row = holding _ refl refl; targets = λ j t e. absurd cc; clauses = λ j c e. absurd cc; no_else = λ h e. absurd cc },
+  demands_operands (holding _ refl refl) refl refl refl,
   by_catching_legacy 1 (label 0 LegacyTry Empty []) (outermost Empty [] ∷ []) 4 false [] [] refl refl (0, refl) tt refl,
 )
 
@@ -235,7 +235,7 @@ rethrows_to_clause : Step cx rethrowing (At 4 (label 3 LegacyCatch Empty [] ∷ 
 rethrows_to_clause = (
   operator cx (rethrow 0),
   refl,
-  record { row = holding _ refl refl; targets = λ j t e. absurd cc; clauses = λ j c e. absurd cc; no_else = λ h e. absurd cc },
+  demands_operands (holding _ refl refl) refl refl refl,
   by_catching 1 (label 0 TryTable Empty []) (outermost Empty [] ∷ []) (operator cx (try_table Empty (All 0 ∷ []))) 0 (record { depth = 0; types = [] }) refl refl refl refl
       (record { label = outermost Empty []; outer = []; is = refl; types = []; below = tt; arrives = refl }),
 )
@@ -248,20 +248,17 @@ rethrowing_safe = body_safety (context_of declared) (lawful_lists declared refl)
 -- without what the exception carries
 stuck_at_throw : IsNotStuck cx (operators cx (throw 0 ∷ [])) (initial_machine Empty) → ⊥
 stuck_at_throw d =
-    let r = (the_demand cx _ 0 (outermost Empty []) [] [] (operator cx (throw 0)) refl d).row.1 in
-    absurd cc
+    is_no_value (the_demand cx _ 0 (outermost Empty []) [] [] (operator cx (throw 0)) refl d).row.1
 
 -- over a reference to something else
 stuck_at_reference : IsNotStuck cx (operators cx (throw_ref ∷ [])) (At 0 (outermost Empty (null (abstract Any) ∷ []) ∷ []) []) → ⊥
 stuck_at_reference d =
-    let r = (the_demand cx _ 0 (outermost Empty (null (abstract Any) ∷ [])) [] [] (operator cx throw_ref) refl d).row.1 in
-    absurd cc
+    is_no_value (the_demand cx _ 0 (outermost Empty (null (abstract Any) ∷ [])) [] [] (operator cx throw_ref) refl d).row.1
 
 -- where nothing was caught
 stuck_at_rethrow : IsNotStuck cx (operators cx (rethrow 0 ∷ [])) (At 0 (in_part 0 LegacyTry []) []) → ⊥
 stuck_at_rethrow d =
-    let r = (the_demand cx _ 0 (label 0 LegacyTry Empty []) (outermost Empty [] ∷ []) [] (operator cx (rethrow 0)) refl d).row.1 in
-    absurd cc
+    is_no_value (the_demand cx _ 0 (label 0 LegacyTry Empty []) (outermost Empty [] ∷ []) [] (operator cx (rethrow 0)) refl d).row.1
 
 -- with a clause whose label has no place for the reference
 stuck_at_clause : IsNotStuck cx (operators cx (try_table Empty (OneRef 0 0 ∷ []) ∷ [])) (At 0 (label 0 Block (Val I32) [] ∷ outermost Empty [] ∷ []) []) → ⊥

@@ -24,7 +24,7 @@ use Rattle.type_safety.specs.Machine.Outcome.{traps}
 use Rattle.type_safety.proofs.Outcomes.{holding, by_going_on}
 use Rattle.type_safety.specs.Theorem.{IsTypeSafe}
 use Rattle.type_safety.proofs.Bodies.{body_safety}
-use Rattle.type_safety.proofs.ExampleWords.{outermost}
+use Rattle.type_safety.proofs.ExampleWords.{outermost, demands_operands, is_no_value}
 
 abbrev declared : Declared
 declared = record nothing_declared { memories = record { memory64 = false; shared = false } ∷ record { memory64 = true; shared = false } ∷ [] }
@@ -57,7 +57,7 @@ loads : Step cx moving (standing 2 (I64 ∷ I32 ∷ [])) (standing 3 (I64 ∷ I3
 loads = (
   operator cx (load 1),
   refl,
-  record { row = holding _ refl refl; targets = λ j t e. absurd cc; clauses = λ j c e. absurd cc; no_else = λ h e. absurd cc },
+  demands_operands (holding _ refl refl) refl refl refl,
   by_going_on (I64 ∷ []) (I64 ∷ []) refl refl refl (refl, tt) refl,
 )
 
@@ -66,7 +66,7 @@ stores : Step cx moving (standing 3 (I64 ∷ I32 ∷ [])) (standing 4 [])
 stores = (
   operator cx (store 0),
   refl,
-  record { row = holding _ refl refl; targets = λ j t e. absurd cc; clauses = λ j c e. absurd cc; no_else = λ h e. absurd cc },
+  demands_operands (holding _ refl refl) refl refl refl,
   by_going_on [] [] refl refl refl tt refl,
 )
 
@@ -75,7 +75,7 @@ may_trap : Step cx moving (standing 3 (I64 ∷ I32 ∷ [])) Trapped
 may_trap = (
   operator cx (store 0),
   refl,
-  record { row = holding _ refl refl; targets = λ j t e. absurd cc; clauses = λ j c e. absurd cc; no_else = λ h e. absurd cc },
+  demands_operands (holding _ refl refl) refl refl refl,
   traps refl,
 )
 
@@ -84,8 +84,7 @@ stuck : IsNotStuck cx moving (standing 2 (I32 ∷ I32 ∷ [])) → ⊥
 stuck d =
     let e : operator cx (load 1) ≡ d.0 = some_injective _ _ d.1 in
     let d' = subst (λ op. Demand cx moving (configuration 2 (outermost Empty (I32 ∷ I32 ∷ [])) [] [] op)) (sym e) d.2 in
-    let r = d'.row.1 in
-    absurd cc
+    is_no_value d'.row.1
 
 moving_safe : IsTypeSafe cx moving Empty
 moving_safe = body_safety (context_of declared) (lawful_lists declared refl) cx moving_ops Empty refl ([], refl)
@@ -126,7 +125,7 @@ fills : Step array_cx filling (standing 4 (I64 ∷ I32 ∷ to_array ∷ [])) (st
 fills = (
   operator array_cx (Memory (Store NumberI64 in_array)),
   refl,
-  record { row = holding _ refl refl; targets = λ j t e. absurd cc; clauses = λ j c e. absurd cc; no_else = λ h e. absurd cc },
+  demands_operands (holding _ refl refl) refl refl refl,
   by_going_on [] [] refl refl refl tt refl,
 )
 
@@ -135,7 +134,7 @@ fill_may_trap : Step array_cx filling (standing 4 (I64 ∷ I32 ∷ to_array ∷ 
 fill_may_trap = (
   operator array_cx (Memory (Store NumberI64 in_array)),
   refl,
-  record { row = holding _ refl refl; targets = λ j t e. absurd cc; clauses = λ j c e. absurd cc; no_else = λ h e. absurd cc },
+  demands_operands (holding _ refl refl) refl refl refl,
   traps refl,
 )
 
@@ -144,8 +143,7 @@ fill_stuck : IsNotStuck array_cx filling (standing 4 (I64 ∷ I32 ∷ [])) → �
 fill_stuck d =
     let e : operator array_cx (Memory (Store NumberI64 in_array)) ≡ d.0 = some_injective _ _ d.1 in
     let d' = subst (λ op. Demand array_cx filling (configuration 4 (outermost Empty (I64 ∷ I32 ∷ [])) [] [] op)) (sym e) d.2 in
-    let r = d'.row.1 in
-    absurd cc
+    is_no_value d'.row.1
 
 filling_safe : IsTypeSafe array_cx filling Empty
 filling_safe = body_safety (context_of declared_array) (lawful_lists declared_array refl) array_cx filling_ops Empty refl ([], refl)

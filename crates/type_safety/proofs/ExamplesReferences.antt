@@ -1,6 +1,6 @@
 -- Runs of small bodies with branches that look whether a reference is null: what is carried where it is,
 -- and what where it isn't.
-use Rattle.std.proofs.Common.{◌≡◌, ℕ, ◌+◌, true, false, List, [], ◌∷◌, drop, refl, sym, subst}
+use Rattle.std.proofs.Common.{◌≡◌, ◌+◌, true, false, List, [], ◌∷◌, drop, refl, sym, subst}
 use Rattle.validate_resources.specs.Lists.{Declared, context_of}
 use Rattle.validate_resources.specs.Lawful.{lawful_lists}
 use Rattle.validate_resources.specs.Named.{nothing_declared}
@@ -24,7 +24,7 @@ use Rattle.type_safety.specs.Machine.{Label, label_heads, At, LabelAccepts, Dema
 use Rattle.type_safety.proofs.Outcomes.{holding, by_going_on, by_jumping}
 use Rattle.type_safety.specs.Theorem.{IsTypeSafe}
 use Rattle.type_safety.proofs.Bodies.{body_safety}
-use Rattle.type_safety.proofs.ExampleWords.{block_label, outermost, only}
+use Rattle.type_safety.proofs.ExampleWords.{block_label, outermost, only, demands_operands, none_there, opens_nothing, is_no_value}
 
 -- ---- a function from nothing to nothing, and a type of an i32 and a function
 
@@ -56,8 +56,8 @@ at_null : Demand cx testing (configuration 3 (block_label 0 (Val I32) (null func
 at_null = record {
   row = holding _ refl refl;
   targets = only (λ (t : Target). LabelAccepts cx (drop t.depth (in_block (null func ∷ I32 ∷ []))) (t.carried (I32 ∷ null func ∷ []))) (target cx (label_heads (in_block [])) 0) (refl, tt);
-  clauses = λ j c e. absurd cc;
-  no_else = λ h e. absurd cc;
+  clauses = λ j c e. absurd (none_there j e);
+  no_else = λ h e. absurd (opens_nothing h e refl);
 }
 
 -- it is null: behind the block, with the i32
@@ -92,16 +92,14 @@ stuck_at_number : IsNotStuck cx testing (At 3 (in_block (I32 ∷ I32 ∷ [])) []
 stuck_at_number d =
     let e : operator cx (br_on_null 0) ≡ d.0 = some_injective _ _ d.1 in
     let d' = subst (λ op. Demand cx testing (configuration 3 (block_label 0 (Val I32) (I32 ∷ I32 ∷ [])) (in_body []) [] op)) (sym e) d.2 in
-    let r = d'.row.1 in
-    absurd cc
+    is_no_value d'.row.1
 
 -- and with another type below it
 stuck_over_other : IsNotStuck cx testing (At 3 (in_block (null func ∷ I64 ∷ [])) []) → ⊥
 stuck_over_other d =
     let e : operator cx (br_on_null 0) ≡ d.0 = some_injective _ _ d.1 in
     let d' = subst (λ op. Demand cx testing (configuration 3 (block_label 0 (Val I32) (null func ∷ I64 ∷ [])) (in_body []) [] op)) (sym e) d.2 in
-    let r = d'.row.1 in
-    absurd cc
+    is_no_value d'.row.1
 
 testing_safe : IsTypeSafe cx testing to_nothing
 testing_safe = body_safety (context_of declared) (lawful_lists declared refl) cx testing_ops to_nothing refl ([], refl)
@@ -123,8 +121,8 @@ at_non_null : Demand cx giving (configuration 3 (block_label 0 to_i32_and_func (
 at_non_null = record {
   row = holding _ refl refl;
   targets = only (λ (t : Target). LabelAccepts cx (drop t.depth (in_giving (null func ∷ I32 ∷ []))) (t.carried (I32 ∷ null func ∷ []))) (record { depth = 0; carried = last_without_null }) (refl, (refl, tt));
-  clauses = λ j c e. absurd cc;
-  no_else = λ h e. absurd cc;
+  clauses = λ j c e. absurd (none_there j e);
+  no_else = λ h e. absurd (opens_nothing h e refl);
 }
 
 -- it isn't null: behind the block, with the i32 and the reference without null
@@ -150,8 +148,7 @@ stuck_alone : IsNotStuck cx giving (At 3 (in_giving (null func ∷ [])) []) → 
 stuck_alone d =
     let e : operator cx (br_on_non_null 0) ≡ d.0 = some_injective _ _ d.1 in
     let d' = subst (λ op. Demand cx giving (configuration 3 (block_label 0 to_i32_and_func (null func ∷ [])) (in_body []) [] op)) (sym e) d.2 in
-    let r = d'.row.1 in
-    absurd cc
+    is_no_value d'.row.1
 
 giving_safe : IsTypeSafe cx giving to_nothing
 giving_safe = body_safety (context_of declared) (lawful_lists declared refl) cx giving_ops to_nothing refl ([], refl)
@@ -169,7 +166,7 @@ tests : Step cx calling (At 1 (in_body (null func ∷ [])) []) (At 2 (in_body (I
 tests = (
   operator cx (Reference RefIsNull),
   refl,
-  record { row = holding _ refl refl; targets = λ j t e. absurd cc; clauses = λ j c e. absurd cc; no_else = λ h e. absurd cc },
+  demands_operands (holding _ refl refl) refl refl refl,
   by_going_on (I32 ∷ []) (I32 ∷ []) refl refl refl (refl, tt) refl,
 )
 
@@ -177,7 +174,7 @@ loses : Step cx calling (At 4 (in_body (null (concrete 0) ∷ [])) []) (At 5 (in
 loses = (
   operator cx (Reference RefAsNonNull),
   refl,
-  record { row = holding _ refl refl; targets = λ j t e. absurd cc; clauses = λ j c e. absurd cc; no_else = λ h e. absurd cc },
+  demands_operands (holding _ refl refl) refl refl refl,
   by_going_on (no_null (concrete 0) ∷ []) (no_null (concrete 0) ∷ []) refl refl refl (refl, tt) refl,
 )
 
@@ -186,7 +183,7 @@ calls : Step cx calling (At 5 (in_body (no_null (concrete 0) ∷ [])) []) (At 6 
 calls = (
   operator cx (Control (CallRef 0)),
   refl,
-  record { row = holding _ refl refl; targets = λ j t e. absurd cc; clauses = λ j c e. absurd cc; no_else = λ h e. absurd cc },
+  demands_operands (holding _ refl refl) refl refl refl,
   by_going_on [] [] refl refl refl tt refl,
 )
 

@@ -1,9 +1,10 @@
--- A type that is read where no type of its group can be named is read so however they are named.
-use Rattle.std.proofs.Common.{◌≡◌, ◌∙◌, ℕ, zero, suc, ◌+◌, ◌-◌, ◌^◌, List, [], ◌∷◌, Bool, true, false, if◌then◌else◌, nat_eq, nat_lt, Option, Some, None, is_some, slice_get, min, refl, sym, ap, subst, arith}
+-- A type that is read where no type of its group can be named is read so however they are named. And what bytes are read
+-- as doesn't depend on where the list lies by which indices of types are read.
+use Rattle.std.proofs.Common.{◌≡◌, ◌⊎◌, inl, inr, ◌∙◌, ℕ, zero, suc, ◌+◌, ◌-◌, ◌^◌, List, [], ◌∷◌, Bool, true, false, if◌then◌else◌, nat_eq, nat_lt, Option, Some, None, is_some, slice_get, min, refl, sym, ap, subst, arith}
 use Rattle.std.specs.Option.{option_and_then}
 use Rattle.binary_operators.proofs.Wherever.{lying}
 use Rattle.binary_operators.specs.Integers.{unsigned}
-use Rattle.binary_operators.specs.Types.{name_of, type_name, named, unshared_heap, shared_heap, heap_type, reference_type, ref_type, value_of, value_type, type_number, abstract_type, number_type}
+use Rattle.binary_operators.specs.Types.{name_in_group, name_of, type_count, type_name, named, unshared_heap, shared_heap, heap_type, reference_type, ref_type, value_of, value_type, type_number, abstract_type, number_type}
 use Rattle.binary_operators.specs.Values.{byte, so_many, list_of}
 use Rattle.binary_operators.specs.declared.types.CanonicalTypes.{CanonicalTypes}
 use Rattle.binary_operators.specs.declared.types.GroupNames.{GroupNames}
@@ -30,6 +31,11 @@ Gives (Some x) p = p ≡ Some x
 given : {A : Type 0} → (o p : Option A) (x : A) → Gives o p → o ≡ Some x → p ≡ Some x
 given None p x h e = cc
 given (Some y) p x h e = h ∙ e
+
+both_give : {A : Type 0} → (o p : Option A) → Gives o p → Gives p o → o ≡ p
+both_give None None h k = refl
+both_give None (Some y) h k = k
+both_give (Some x) p h k = sym h
 
 same : {A : Type 0} → (o : Option A) → Gives o o
 same None = tt
@@ -62,24 +68,36 @@ unfolding list_of
 lists_give item item' each bytes =
     both (unsigned 32 bytes) (unsigned 32 bytes) _ _ (same (unsigned 32 bytes)) (λ count. many_give item item' each count.0 count.1)
 
-module _ (p q : ℕ × ℕ) (l : List ℕ) (g : GroupNames) where
-  -- by none of these names a type can be named
+-- ---- names
+
+-- a type of the group is named the same by both, or can't be named by the first
+abbrev Alike : GroupNames → GroupNames → ℕ → Type 0
+Alike f g place = (name_in_group f place ≡ name_in_group g place) ⊎ (name_in_group f place ≡ Module (2 ^ 32 - 1))
+
+too_large : (place : ℕ) → min (2 ^ 32 - 1 + place) (2 ^ 32 - 1) ≡ 2 ^ 32 - 1
+too_large place = omega arith
+
+names_give : {A : Type 0} → (f g : GroupNames) (named_so : UnpackedIndex → Option A) → named_so (Module (2 ^ 32 - 1)) ≡ None → (place : ℕ) → Alike f g place → Gives (named_so (name_in_group f place)) (named_so (name_in_group g place))
+names_give f g named_so none place (inl e) =
+    let P : UnpackedIndex → Type 0 = λ n. Gives (named_so (name_in_group f place)) (named_so n) in
+    subst P e (same (named_so (name_in_group f place)))
+names_give f g named_so none place (inr e) =
+    let P : Option _ → Type 0 = λ o. Gives o (named_so (name_in_group g place)) in
+    subst P (sym (ap named_so e ∙ none)) tt
+
+module _ (p q : ℕ × ℕ) (l : List ℕ) (f g : GroupNames) (alike : (place : ℕ) → Alike f g place) where
   abbrev s : CanonicalTypes
-  s = lying p l (Indices (2 ^ 32 - 1))
+  s = lying p l f
 
   abbrev t : CanonicalTypes
   t = lying q l g
 
-  -- ---- names
-
-  too_large : (place : ℕ) → min (2 ^ 32 - 1 + place) (2 ^ 32 - 1) ≡ 2 ^ 32 - 1
-  too_large place = omega arith
+  abbrev place_of : ℕ → ℕ
+  place_of i = i - type_count s
 
   packed_gives : (o : Option ℕ) (i : ℕ) → Gives (packed_index (name_of o s i)) (packed_index (name_of o t i))
   packed_gives (Some first) i = same (packed_index (Module first))
-  packed_gives None i =
-      let P : ℕ → Type 0 = λ n. Gives (packed_index (Module n)) (packed_index (name_of None t i)) in
-      subst P (sym (too_large _)) tt
+  packed_gives None i = names_give f g packed_index refl (place_of i) (alike (place_of i))
 
   index_gives : (bytes : List ℕ) → Gives (type_index s bytes) (type_index t bytes)
   unfolding type_index
@@ -94,15 +112,11 @@ module _ (p q : ℕ × ℕ) (l : List ℕ) (g : GroupNames) where
 
   concrete_gives : (nullable : Bool) (o : Option ℕ) (i : ℕ) (rest : List ℕ) → Gives (refer nullable (Concrete (name_of o s i), rest)) (refer nullable (Concrete (name_of o t i), rest))
   concrete_gives nullable (Some first) i rest = same (refer nullable (Concrete (Module first), rest))
-  concrete_gives nullable None i rest =
-      let P : ℕ → Type 0 = λ n. Gives (refer nullable (Concrete (Module n), rest)) (refer nullable (Concrete (name_of None t i), rest)) in
-      subst P (sym (too_large _)) tt
+  concrete_gives nullable None i rest = names_give f g (λ n. refer nullable (Concrete n, rest)) refl (place_of i) (alike (place_of i))
 
   exact_gives : (nullable : Bool) (o : Option ℕ) (i : ℕ) (rest : List ℕ) → Gives (refer nullable (Exact (name_of o s i), rest)) (refer nullable (Exact (name_of o t i), rest))
   exact_gives nullable (Some first) i rest = same (refer nullable (Exact (Module first), rest))
-  exact_gives nullable None i rest =
-      let P : ℕ → Type 0 = λ n. Gives (refer nullable (Exact (Module n), rest)) (refer nullable (Exact (name_of None t i), rest)) in
-      subst P (sym (too_large _)) tt
+  exact_gives nullable None i rest = names_give f g (λ n. refer nullable (Exact n, rest)) refl (place_of i) (alike (place_of i))
 
   by_number_gives : (nullable : Bool) (o : Option (ℕ × List ℕ)) → Gives (option_and_then (refer nullable) (named Concrete s o)) (option_and_then (refer nullable) (named Concrete t o))
   by_number_gives nullable None = tt
@@ -252,8 +266,21 @@ reads_anyhow names canonical bytes rest ty here last e = λ types there.
     let p = names.canonical.ref_ptr in
     let q = types.canonical.ref_ptr in
     let l = names.canonical.now in
+    let alike : (place : ℕ) → Alike (Indices (2 ^ 32 - 1)) types.group place = λ place. inr (ap Module (too_large place)) in
     let G : GroupNames → Type 0 = λ g. sub_type (lying p l g) bytes ≡ Some (ty, rest) in
     let L : List ℕ → Type 0 = λ c. sub_type (lying q c types.group) bytes ≡ Some (ty, rest) in
     let read = given (sub_type (lying p l (Indices (2 ^ 32 - 1))) bytes) (sub_type (lying q l types.group) bytes) (ty, rest)
-    (sub_type_gives p q l types.group bytes) (subst G last e) in
+    (sub_type_gives p q l (Indices (2 ^ 32 - 1)) types.group alike bytes) (subst G last e) in
     subst L (here ∙ sym there) read
+
+pub reads_wherever : (s t : CanonicalTypes) → s.canonical.now ≡ t.canonical.now → s.group ≡ t.group → (bytes : List ℕ) → sub_type s bytes ≡ sub_type t bytes
+reads_wherever s t here own bytes =
+    let p = s.canonical.ref_ptr in
+    let q = t.canonical.ref_ptr in
+    let l = s.canonical.now in
+    let g = s.group in
+    let alike : (place : ℕ) → Alike g g place = λ place. inl refl in
+    let L : List ℕ → Type 0 = λ c. sub_type (lying p l g) bytes ≡ sub_type (lying q c g) bytes in
+    let G : GroupNames → Type 0 = λ h. sub_type (lying p l g) bytes ≡ sub_type (lying q t.canonical.now h) bytes in
+    let same_there = both_give (sub_type (lying p l g) bytes) (sub_type (lying q l g) bytes) (sub_type_gives p q l g g alike bytes) (sub_type_gives q p l g g alike bytes) in
+    subst G own (subst L here same_there)

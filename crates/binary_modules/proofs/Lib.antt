@@ -7,8 +7,14 @@ pub mod Fronts
 pub mod Grouped
 pub mod ImportedMore
 pub mod Listed
+pub mod Lying
 pub mod Named
 pub mod NamedFunctions
+pub mod NoModule
+pub mod Once
 pub mod Pieces
+pub mod SectionsLess
 pub mod SectionsMore
+pub mod TypesUnique
+pub mod Unreadable
 pub mod WholeParts

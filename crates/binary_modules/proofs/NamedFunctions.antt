@@ -1,4 +1,4 @@
--- An operator more of a constant expression is read.
+-- An operator more of a constant expression is read, or can't be.
 use Rattle.std.proofs.Common.{ap, arith, sym, ◌∙◌, ◌≡◌, refl, ℕ, suc, ◌+◌, ◌-◌, ◌<◌, List, [], ◌++◌, append_assoc, Option, Some, None}
 use Rattle.std.specs.Option.{option_and_then}
 use Rattle.binary_operators.proofs.Items.{with_front}
@@ -33,3 +33,10 @@ op_last count i types depth bytes op rest front lt e d =
     let others = λ (o : Option ℕ). option_and_then {U = List ℕ × List ℕ} (λ (l : List ℕ × List ℕ). Some (named op ++ l.0, l.1)) (or_end o (λ b. named_functions (count - (i + 1)) types b rest) rest) in
     ap (with_front front) (at_op count i types depth bytes op rest lt e ∙ ap others (sym d))
     ∙ longer front (named op) (Some ([], rest))
+
+-- where the next operator can't be read, neither can the others
+pub op_none : (count i : ℕ) (types : CanonicalTypes) (depth : ℕ) (bytes front : List ℕ) → i < count → piece types bytes ≡ None → with_front front (named_functions (count - i) types depth bytes) ≡ None
+op_none count i types depth bytes front lt e =
+    let k : count - i ≡ suc (count - (i + 1)) = omega arith in
+    ap (λ n. with_front front (named_functions n types depth bytes)) k
+    ∙ ap (λ o. with_front front (option_and_then (behind_op (count - (i + 1)) types depth) o)) e

@@ -1,5 +1,5 @@
 -- The operators that most constant expressions are made of.
-use Rattle.std.proofs.Common.{◌≡◌, ◌∙◌, ◌≤◌, ◌<◌, ◌-◌, ap, refl, arith, ℕ, ℤ, List, ◌∷◌, Option, Some, None, IsSome, is_some, slice_get, length, nat_eq, nat_lt, false, if◌then◌else◌, le-ltb, ne_eqb}
+use Rattle.std.proofs.Common.{◌≡◌, ◌∙◌, ◌≤◌, ◌<◌, ◌-◌, ap, refl, arith, ℕ, ℤ, List, [], ◌∷◌, Option, Some, None, IsSome, is_some, slice_get, length, nat_eq, nat_lt, false, if◌then◌else◌, le-ltb, ne_eqb}
 use Rattle.std.specs.Option.{option_and_then}
 use Rattle.std.proofs.lemmas.Option.{slice_get-get_or}
 use Rattle.binary_operators.specs.Codes.{plain_ops, heap_ops}
@@ -52,3 +52,13 @@ null_by types bytes rest code (Some ty) e there other b = (
 pub null_piece : (types : CanonicalTypes) (bytes rest : List ℕ) (code : ℕ) → 0x68 ≤ code → code ≤ 0x75 → bytes ≡ 0xd0 ∷ code ∷ rest → IsNull types bytes rest
 null_piece types bytes rest code low high b =
     null_by types bytes rest code (abstract_type code) refl (abstract_there code low high) (ne_eqb code 0x65 (λ e. absurd (omega (arith, low, e)))) b
+
+pub ended_piece : (types : CanonicalTypes) (bytes : List ℕ) → bytes ≡ [] → piece types bytes ≡ None
+unfolding piece
+ended_piece types bytes e = ap (piece types) e
+
+pub no_integer_piece : (types : CanonicalTypes) (bytes behind : List ℕ) → bytes ≡ 0x41 ∷ behind → signed 32 behind ≡ None → piece types bytes ≡ None
+unfolding piece operator forms constant_i32
+no_integer_piece types bytes behind b e =
+    ap (piece types) b
+    ∙ ap (λ o. of_operator (option_and_then {U = Op × List ℕ} (λ (n : ℤ × List ℕ). Some (Numeric (I32Const n.0), n.1)) o)) e

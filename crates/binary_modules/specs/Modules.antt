@@ -161,3 +161,9 @@ pub record IsModule
   pub sections : List Section
   pub are_sections : AreSections bytes sections
   pub has_contents : HasContents sections d bodies expressions
+
+-- no module has these bytes
+abbrev pub IsNoModule : List ℕ → Type 0
+IsNoModule bytes =
+    (d : Declarations) → (bodies : List (List ℕ)) → (expressions : List (Place × List ℕ))
+    → IsModule bytes d bodies expressions → ⊥

@@ -11,9 +11,10 @@ use Rattle.binary_operators.specs.declared.types.CanonicalTypes.{CanonicalTypes}
 use Rattle.binary_operators.specs.declared.types.GroupNames.{GroupNames}
 use Rattle.binary_operators.specs.declared.types.GroupNames.TheVariants.{Places, Indices}
 use Rattle.validate_types.specs.declared.types.SubType.{SubType}
+use Rattle.module_rules.specs.declared.items.RecGroup.{RecGroup}
 use Rattle.binary_modules.specs.SubTypes.{sub_type}
 use Rattle.binary_modules.specs.Groups.{Group, types_of, canonical_of, shape, written_shape}
-use Rattle.binary_modules.specs.Groups.{IsGroup, StandsFor}
+use Rattle.binary_modules.specs.Groups.{IsGroup, StandsFor, AreTypes}
 use Rattle.binary_modules.specs.Mixed.{mix_types}
 use Rattle.binary_modules.specs.contracts.mixed.RolledGroupOrd.TheImpl as rolled_ord
 use Rattle.binary_modules.specs.declared.groups.Groups.{Groups}
@@ -29,10 +30,19 @@ pub record HasTypes
   pub are_own : types.group ≡ names
   pub are_read : so_many (sub_type types) count bytes ≡ Some (read, rest)
 
+-- the bytes don't begin with so many types, named so
+abbrev pub HasNoTypes : List ℕ → GroupNames → ℕ → List ℕ → Type 0
+HasNoTypes canonical names count bytes =
+    (read : List SubType) → (rest : List ℕ) → HasTypes canonical names count bytes read rest → ⊥
+
 -- The bytes begin with this type, however the types of its group are named, where these stand for those before it.
 abbrev pub ReadsAnyhow : List ℕ → List ℕ → SubType → List ℕ → Type 0
 ReadsAnyhow canonical bytes ty rest =
     (types : CanonicalTypes) → types.canonical.now ≡ canonical → sub_type types bytes ≡ Some (ty, rest)
+
+-- the bytes don't begin with this type, or not however the types of its group are named
+abbrev pub ReadsNoType : List ℕ → List ℕ → SubType → Type 0
+ReadsNoType canonical bytes ty = (rest : List ℕ) → ReadsAnyhow canonical bytes ty rest → ⊥
 
 -- the order of groups, rolled up
 abbrev pub rolled_cmp : RolledGroup → RolledGroup → Ordering
@@ -125,3 +135,20 @@ pub record HasReadGroup
   pub group : Group
   pub is_group : IsGroup before bytes group rest
   pub has_read : HasRead section kept (before ++ group ∷ [])
+
+-- behind these groups, the bytes don't begin with so many types of a group: rolled up, and as they are declared then
+abbrev pub HasNoRolled : List Group → ℕ → List ℕ → List ℕ → Type 0
+HasNoRolled before count bytes canonical =
+    (rolled : List SubType) → (rest : List ℕ) → HasTypes canonical Places count bytes rolled rest
+    → (first : ℕ) → StandsFor before rolled (length canonical) first
+    → HasNoTypes canonical (Indices first) count bytes
+
+-- behind these groups, the bytes don't begin with a group
+abbrev pub HasNoGroup : List Group → List ℕ → Type 0
+HasNoGroup before bytes = (g : Group) → (behind : List ℕ) → IsGroup before bytes g behind → ⊥
+
+-- the bytes don't begin with a list of groups
+abbrev pub AreNoTypes : List ℕ → Type 0
+AreNoTypes bytes =
+    (types : List SubType) → (canonical : List ℕ) → (written : List RecGroup) → (rest : List ℕ)
+    → AreTypes bytes types canonical written rest → ⊥

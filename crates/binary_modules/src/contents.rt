@@ -1,7 +1,8 @@
 //! What stands in the sections of a module (WebAssembly core specification, "Binary Format: Modules").
 
-ghost use Rattle.std.specs.Prelude.{ℕ, ◌≡◌, List, [], length, Some, IfOk, OnOk, option_map};
+ghost use Rattle.std.specs.Prelude.{ℕ, ◌≡◌, ◌≢◌, List, [], length, Option, Some, None, IfOk, IfErr, OnOk, OnErr, option_map};
 ghost use Rattle.binary_operators.specs.Values.{so_many, list_of};
+ghost use Rattle.binary_operators.specs.declared.error.Cause.TheVariants.{OutOfMemory};
 ghost use Rattle.binary_modules.specs.ContentsRead.{IsList, bytes_of};
 ghost use Rattle.binary_modules.specs.Items.{Item, placed};
 ghost use Rattle.binary_modules.specs.Kept.{Adds};
@@ -19,7 +20,8 @@ use std::alloc::Global;
 
 /// Refuses what is left of a section: `section size mismatch`.
 pub(crate) fn check_end(reader: &BinaryReader<'_>) -> Result<(), ReadError>
-    ensures { OnOk result (reader.now.left ≡ []) }
+    ensures ended { OnOk result (reader.now.left ≡ []) }
+    ensures refused { OnErr result (reader.now.left ≢ []) }
 {
     if reader.is_at_end() {
         return Ok(());
@@ -36,10 +38,12 @@ pub(crate) fn read_section_of<'a, T: Entry>(
     items: &mut Vec<T>,
     initializers: &mut Initializers<'a>,
 ) -> Result<(), ReadError>
-    ensures { OnOk result ((read : List (Item T))
+    ensures read { OnOk result ((read : List (Item T))
         × IsList (T.reading canonical.entry) T.unplaced id (told_sections sections.now) items.old.items
         items.new.items read
         × Adds initializers.old (placed (length items.old.items) read) initializers.new) }
+    ensures refused { IfErr result (λ e. e.cause ≢ OutOfMemory → (read : List (Item T))
+        → list_of (T.reading canonical.entry) (contents_of id (told_sections sections.now)) ≢ Some (read, [])) }
 {
     let mut reader = contents_of(sections, id);
     read_entries(&mut reader, canonical, items, initializers)?;
@@ -55,9 +59,11 @@ pub(crate) fn read_plain_section<T: Entry>(
     canonical: CanonicalTypes<'_>,
     items: &mut Vec<T>,
 ) -> Result<(), ReadError>
-    ensures { OnOk result ((read : List (Item T))
+    ensures read { OnOk result ((read : List (Item T))
         × IsList (T.reading canonical.entry) T.unplaced id (told_sections sections.now) items.old.items
         items.new.items read) }
+    ensures refused { IfErr result (λ e. e.cause ≢ OutOfMemory → (read : List (Item T))
+        → list_of (T.reading canonical.entry) (contents_of id (told_sections sections.now)) ≢ Some (read, [])) }
 {
     let mut none = Initializers::new(alloc);
     read_section_of(sections, id, canonical, items, &mut none)
@@ -77,8 +83,10 @@ pub(crate) fn read_number_of(
     sections: &[ContentSection<'_>],
     id: u8,
 ) -> Result<Option<SectionNumber>, ReadError>
-    ensures { IfOk result (λ n. IsNumber (section_contents id (told_sections sections.now))
+    ensures read { IfOk result (λ n. IsNumber (section_contents id (told_sections sections.now))
         (option_map (λ (x : SectionNumber). x.number) n)) }
+    ensures refused { OnErr result ((n : Option ℕ)
+        → IsNumber (section_contents id (told_sections sections.now)) n → ⊥) }
 {
     let Some(mut reader) = section_contents(sections, id) else {
         return Ok(None);
@@ -96,8 +104,9 @@ fn read_bodies<'a>(
     bodies: &mut Vec<BinaryReader<'a>>,
 ) -> Result<(), ReadError>
     requires { bodies.old.items ≡ [] }
-    ensures { OnOk result (so_many sized count reader.old.left
+    ensures read { OnOk result (so_many sized count reader.old.left
         ≡ Some (bytes_of bodies.new.items, reader.new.left)) }
+    ensures refused { IfErr result (λ e. e.cause ≢ OutOfMemory → so_many sized count reader.old.left ≡ None) }
 {
     for _ in 0..count {
         let body = read_part(reader)?;
@@ -112,8 +121,10 @@ pub(crate) fn read_bodies_of<'a>(
     alloc: Global,
     sections: &[ContentSection<'a>],
 ) -> Result<Vec<BinaryReader<'a>>, ReadError>
-    ensures { IfOk result (λ bodies. list_of sized (contents_of 10 (told_sections sections.now))
+    ensures read { IfOk result (λ bodies. list_of sized (contents_of 10 (told_sections sections.now))
         ≡ Some (bytes_of bodies.items, [])) }
+    ensures refused { IfErr result (λ e. e.cause ≢ OutOfMemory → (bodies : List (List ℕ))
+        → list_of sized (contents_of 10 (told_sections sections.now)) ≢ Some (bodies, [])) }
 {
     let mut reader = contents_of(sections, 10);
     let count = reader.read_var_u32()?;

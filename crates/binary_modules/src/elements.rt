@@ -1,7 +1,8 @@
 //! Element segments (WebAssembly core specification, "Binary Format: Modules", "Element Section").
 
-ghost use Rattle.std.specs.Prelude.{ℕ, ◌≡◌, List, [], ◌∷◌, Some, None, map, length, IfOk, OnOk, OnErr};
+ghost use Rattle.std.specs.Prelude.{ℕ, ◌≡◌, ◌≢◌, List, [], ◌∷◌, Some, None, map, length, IfOk, IfErr, OnOk, OnErr};
 ghost use Rattle.binary_operators.specs.Values.{so_many};
+ghost use Rattle.binary_operators.specs.declared.error.Cause.TheVariants.{OutOfMemory};
 ghost use Rattle.module_rules.specs.declared.module.Place.TheVariants.{Element as ElementItem};
 ghost use Rattle.module_rules.specs.declared.segments.Element.{Element};
 ghost use Rattle.module_rules.specs.declared.segments.ElementKind.{ElementKind};
@@ -46,6 +47,7 @@ pub(crate) fn read_index_if(
 }
 
 /// Reads where the elements of the segment at this index are written to.
+#[tactic(auto, unfolding(crate::specs::Segments::active_elements))]
 fn read_active_elements<'a>(
     reader: &mut BinaryReader<'a>,
     canonical: CanonicalTypes<'_>,
@@ -53,10 +55,12 @@ fn read_active_elements<'a>(
     index: u32,
     initializers: &mut Initializers<'a>,
 ) -> Result<ElementKind, ReadError>
-    ensures { IfOk result (λ kind. (t : Target ElementKind)
+    ensures read { IfOk result (λ kind. (t : Target ElementKind)
         × (active_elements has_table canonical.entry reader.old.left ≡ Some (t, reader.new.left))
         × (t.kind ≡ kind)
         × Adds initializers.old (placed_at index t.initializers) initializers.new) }
+    ensures refused { IfErr result (λ e. e.cause ≢ OutOfMemory
+        → active_elements has_table canonical.entry reader.old.left ≡ None) }
 {
     let table_index = read_index_if(reader, has_table)?;
     initializers.read(reader, canonical, Place::ElementOffset(index))?;
@@ -70,10 +74,12 @@ fn read_element_target<'a>(
     head: SegmentHead,
     initializers: &mut Initializers<'a>,
 ) -> Result<ElementKind, ReadError>
-    ensures { IfOk result (λ kind. (t : Target ElementKind)
+    ensures read { IfOk result (λ kind. (t : Target ElementKind)
         × (element_target head.flags canonical.entry reader.old.left ≡ Some (t, reader.new.left))
         × (t.kind ≡ kind)
         × Adds initializers.old (placed_at head.index t.initializers) initializers.new) }
+    ensures refused { IfErr result (λ e. e.cause ≢ OutOfMemory
+        → element_target head.flags canonical.entry reader.old.left ≡ None) }
 {
     let SegmentHead { flags, index, .. } = head;
     let mode = flags % 4;
@@ -94,8 +100,9 @@ fn read_function_items(
     reader: &mut BinaryReader<'_>,
     canonical: CanonicalTypes<'_>,
 ) -> Result<ElementItems, ReadError>
-    ensures { IfOk result (λ items. function_items reader.old.left
+    ensures read { IfOk result (λ items. function_items reader.old.left
         ≡ Some (record { items = items; initializers = [] }, reader.new.left)) }
+    ensures refused { IfErr result (λ e. e.cause ≢ OutOfMemory → function_items reader.old.left ≡ None) }
 {
     let indices = read_list(alloc, reader, canonical)?;
     Ok(ElementItems::Functions(FunctionItems { indices }))
@@ -109,9 +116,11 @@ fn read_expressions<'a>(
     index: u32,
     initializers: &mut Initializers<'a>,
 ) -> Result<(), ReadError>
-    ensures { OnOk result ((values : List Expression)
+    ensures read { OnOk result ((values : List Expression)
         × (so_many (expression canonical.entry) count reader.old.left ≡ Some (values, reader.new.left))
         × Adds initializers.old (map (λ (e : Expression). (ElementItem index, e)) values) initializers.new) }
+    ensures refused { IfErr result (λ e. e.cause ≢ OutOfMemory
+        → so_many (expression canonical.entry) count reader.old.left ≡ None) }
 {
     for _ in 0..count {
         initializers.read(reader, canonical, Place::Element(index))?;
@@ -127,10 +136,12 @@ fn read_expression_items<'a>(
     index: u32,
     initializers: &mut Initializers<'a>,
 ) -> Result<ElementItems, ReadError>
-    ensures { IfOk result (λ items. (l : Listed)
+    ensures read { IfOk result (λ items. (l : Listed)
         × (expression_items ty canonical.entry reader.old.left ≡ Some (l, reader.new.left))
         × (l.items ≡ items)
         × Adds initializers.old (placed_at index l.initializers) initializers.new) }
+    ensures refused { IfErr result (λ e. e.cause ≢ OutOfMemory
+        → expression_items ty canonical.entry reader.old.left ≡ None) }
 {
     let count = reader.read_var_u32()?;
     read_expressions(reader, canonical, count, index, initializers)?;
@@ -138,31 +149,36 @@ fn read_expression_items<'a>(
 }
 
 /// Reads the type of constant expressions, and a list of them.
+#[tactic(auto, unfolding(crate::specs::Segments::type_and_expressions))]
 fn read_type_and_expressions<'a>(
     reader: &mut BinaryReader<'a>,
     canonical: CanonicalTypes<'_>,
     index: u32,
     initializers: &mut Initializers<'a>,
 ) -> Result<ElementItems, ReadError>
-    ensures { IfOk result (λ items. (l : Listed)
+    ensures read { IfOk result (λ items. (l : Listed)
         × (type_and_expressions canonical.entry reader.old.left ≡ Some (l, reader.new.left))
         × (l.items ≡ items)
         × Adds initializers.old (placed_at index l.initializers) initializers.new) }
+    ensures refused { IfErr result (λ e. e.cause ≢ OutOfMemory
+        → type_and_expressions canonical.entry reader.old.left ≡ None) }
 {
     let ty = read_ref_type(reader, canonical)?;
     let items = read_expression_items(reader, canonical, ty, index, initializers)?;
     Ok(items)
 }
 
-/// Reads the kind of items that are functions, and their indices.
+/// Reads the kind of items that are functions, and their indices. It refuses another kind, `invalid element kind`, what
+/// the reads of numbers refuse, and want of memory.
 #[tactic(auto, unfolding(crate::specs::Segments::kind_and_functions))]
 fn read_kind_and_functions(
     alloc: Global,
     reader: &mut BinaryReader<'_>,
     canonical: CanonicalTypes<'_>,
 ) -> Result<ElementItems, ReadError>
-    ensures { IfOk result (λ items. kind_and_functions reader.old.left
+    ensures read { IfOk result (λ items. kind_and_functions reader.old.left
         ≡ Some (record { items = items; initializers = [] }, reader.new.left)) }
+    ensures refused { IfErr result (λ e. e.cause ≢ OutOfMemory → kind_and_functions reader.old.left ≡ None) }
 {
     let offset = reader.offset();
     let kind = reader.read_u8()?;
@@ -180,10 +196,12 @@ fn read_element_items<'a>(
     head: SegmentHead,
     initializers: &mut Initializers<'a>,
 ) -> Result<ElementItems, ReadError>
-    ensures { IfOk result (λ items. (l : Listed)
+    ensures read { IfOk result (λ items. (l : Listed)
         × (element_items head.flags canonical.entry reader.old.left ≡ Some (l, reader.new.left))
         × (l.items ≡ items)
         × Adds initializers.old (placed_at head.index l.initializers) initializers.new) }
+    ensures refused { IfErr result (λ e. e.cause ≢ OutOfMemory
+        → element_items head.flags canonical.entry reader.old.left ≡ None) }
 {
     let SegmentHead { flags, index, .. } = head;
     let alloc = initializers.allocator();
@@ -205,16 +223,19 @@ fn read_element_items<'a>(
 }
 
 /// Reads a segment behind its flags.
+#[tactic(auto, unfolding(crate::specs::Segments::element_behind))]
 fn read_element_behind<'a>(
     reader: &mut BinaryReader<'a>,
     canonical: CanonicalTypes<'_>,
     head: SegmentHead,
     initializers: &mut Initializers<'a>,
 ) -> Result<Element, ReadError>
-    ensures { IfOk result (λ e. (item : Item Element)
+    ensures read { IfOk result (λ e. (item : Item Element)
         × (element_behind head.flags canonical.entry reader.old.left ≡ Some (item, reader.new.left))
         × (item.declared ≡ record e { offset = 0 })
         × Adds initializers.old (placed head.index (item ∷ [])) initializers.new) }
+    ensures refused { IfErr result (λ e. e.cause ≢ OutOfMemory
+        → element_behind head.flags canonical.entry reader.old.left ≡ None) }
 {
     let kind = read_element_target(reader, canonical, head, initializers)?;
     let items = read_element_items(reader, canonical, head, initializers)?;
@@ -230,6 +251,7 @@ impl Entry for Element {
 
     ghost unplaced = { λ e. record e { offset = 0 } };
 
+    #[tactic(auto, unfolding(crate::specs::Segments::element))]
     fn read<'a>(
         reader: &mut BinaryReader<'a>,
         canonical: CanonicalTypes<'_>,

@@ -1,8 +1,9 @@
 //! Constant expressions (WebAssembly core specification, "Binary Format: Instructions", "Expressions").
 
-ghost use Rattle.std.specs.Prelude.{ℕ, ◌≡◌, ◌+◌, ◌^◌, ◌<◌, ◌≤◌, List, ◌++◌, length, Option, Some, IfSome};
-ghost use Rattle.std.specs.Prelude.{true, false, IsTrue, IfOk, OnOk};
+ghost use Rattle.std.specs.Prelude.{ℕ, ◌≡◌, ◌≢◌, ◌+◌, ◌^◌, ◌<◌, ◌≤◌, List, ◌++◌, length, Option, Some, IfSome};
+ghost use Rattle.std.specs.Prelude.{true, false, IsTrue, IfOk, IfErr, OnOk, OnErr};
 ghost use Rattle.binary_operators.specs.Instructions.{operator};
+ghost use Rattle.binary_operators.specs.declared.error.Cause.TheVariants.{OutOfMemory};
 ghost use Rattle.binary_operators.specs.declared.types.CanonicalTypes.{CanonicalTypes};
 ghost use Rattle.validate_visit.specs.declared.op.ControlOp.TheVariants.{End};
 ghost use Rattle.validate_visit.specs.declared.op.Op.{Op};
@@ -15,21 +16,24 @@ use binary_operators::{
 };
 use validate_visit::{ControlOp, ExceptionOp, Op, ReferenceOp};
 
-/// Reads an `end`, if the next operator is one.
+/// Reads an `end`, if the next operator is one. It refuses where no byte is left: `unexpected end`.
 fn read_end(reader: &mut BinaryReader<'_>) -> Result<bool, ReadError>
     ensures end { IfOk result (λ is_end. IsTrue is_end → (types : CanonicalTypes)
         → piece types reader.old.left ≡ Some (Some (Control End), reader.new.left)) }
     ensures passed { IfOk result (λ is_end. is_end ≡ false → reader.new ≡ reader.old) }
+    ensures refused { OnErr result ((types : CanonicalTypes) → piece types reader.old.left ≡ Option.None) }
 {
     reader.read_if(0x0b)
 }
 
-/// Reads an `i32.const`, if the next operator is one.
+/// Reads an `i32.const`, if the next operator is one. It refuses where no byte is left, `unexpected end`, and what the
+/// read of the integer refuses.
 #[tactic(auto, using(crate::proofs::Pieces::integer_piece))]
 fn read_integer(reader: &mut BinaryReader<'_>) -> Result<bool, ReadError>
     ensures integer { IfOk result (λ is_integer. IsTrue is_integer → (types : CanonicalTypes)
         → IsInteger types reader.old.left reader.new.left) }
     ensures passed { IfOk result (λ is_integer. is_integer ≡ false → reader.new ≡ reader.old) }
+    ensures refused { OnErr result ((types : CanonicalTypes) → piece types reader.old.left ≡ Option.None) }
 {
     if !reader.read_if(0x41)? {
         return Ok(false);
@@ -53,7 +57,8 @@ fn read_null(reader: &mut BinaryReader<'_>) -> bool
     true
 }
 
-/// Reads a constant of the vector type, if the next operator is one. It refuses other vector operators.
+/// Reads a constant of the vector type, if the next operator is one. It refuses other vector operators, and what the
+/// reads of numbers and of bytes refuse.
 #[tactic(auto, unfolding(crate::specs::Initializers::piece, crate::specs::Initializers::vector_constant))]
 fn read_vector_constant(reader: &mut BinaryReader<'_>) -> Result<bool, ReadError>
     ensures constant { IfOk result (λ is_constant. IsTrue is_constant
@@ -61,6 +66,7 @@ fn read_vector_constant(reader: &mut BinaryReader<'_>) -> Result<bool, ReadError
     ensures other { IfOk result (λ is_constant. is_constant ≡ false
         → (types : CanonicalTypes) → piece types reader.old.left ≡ of_operator (operator types reader.old.left)) }
     ensures passed { IfOk result (λ is_constant. is_constant ≡ false → reader.new ≡ reader.old) }
+    ensures refused { OnErr result ((types : CanonicalTypes) → piece types reader.old.left ≡ Option.None) }
 {
     let offset = reader.offset();
     if !reader.read_if(0xfd)? {
@@ -90,9 +96,10 @@ fn depth_behind(depth: usize, op: Op<'_>) -> Option<usize>
     }
 }
 
-/// Notes the function that an operator names by `ref.func`, if it does.
+/// Notes the function that an operator names by `ref.func`, if it does. It refuses want of memory alone.
 fn note_function(op: Op<'_>, functions: &mut Vec<u32>) -> Result<(), ReadError>
-    ensures { OnOk result (functions.new.items ≡ functions.old.items ++ named (Some op.entry)) }
+    ensures noted { OnOk result (functions.new.items ≡ functions.old.items ++ named (Some op.entry)) }
+    ensures short { IfErr result (λ e. e.cause ≡ OutOfMemory) }
 {
     match op {
         Op::Reference(ReferenceOp::RefFunc(index)) => push(functions, index),
@@ -115,6 +122,8 @@ fn read_any_piece(
         × (piece canonical.entry reader.old.left ≡ Some (op, reader.new.left))
         × (behind ≡ depth_behind depth op)
         × (functions.new.items ≡ functions.old.items ++ named op)) }
+    ensures refused { IfErr result (λ e. e.cause ≢ OutOfMemory
+        → piece canonical.entry reader.old.left ≡ Option.None) }
 {
     if read_vector_constant(reader)? {
         return Ok(Some(depth));
@@ -138,6 +147,8 @@ fn read_piece(
         × (piece canonical.entry reader.old.left ≡ Some (op, reader.new.left))
         × (behind ≡ depth_behind depth op)
         × (functions.new.items ≡ functions.old.items ++ named op)) }
+    ensures refused { IfErr result (λ e. e.cause ≢ OutOfMemory
+        → piece canonical.entry reader.old.left ≡ Option.None) }
 {
     if read_end(reader)? {
         return Ok(depth_behind(depth, Op::Control(ControlOp::End)));
@@ -151,17 +162,20 @@ fn read_piece(
     read_any_piece(reader, canonical, lists, functions, depth)
 }
 
-/// Reads the operators of a constant expression, and notes the functions that they name.
+/// Reads the operators of a constant expression, and notes the functions that they name. It refuses what the reads of
+/// operators refuse, bytes that end before the expression does, `unexpected end`, and want of memory.
 fn read_operators(
     reader: &mut BinaryReader<'_>,
     canonical: CanonicalTypes<'_>,
     lists: &mut OperatorLists,
     functions: &mut Vec<u32>,
 ) -> Result<(), ReadError>
-    ensures { OnOk result ((names : List ℕ)
+    ensures read { OnOk result ((names : List ℕ)
         × (named_functions (length reader.old.left) canonical.entry 0 reader.old.left
         ≡ Some (names, reader.new.left))
         × (functions.new.items ≡ functions.old.items ++ names)) }
+    ensures refused { IfErr result (λ e. e.cause ≢ OutOfMemory
+        → named_functions (length reader.old.left) canonical.entry 0 reader.old.left ≡ Option.None) }
 {
     let mut depth = 0;
     for _ in 0..reader.bytes_left() {
@@ -174,7 +188,7 @@ fn read_operators(
 }
 
 /// Reads a constant expression, notes the functions that it names, and answers a reader of it. It refuses what the reads
-/// of operators refuse, and bytes that end in it: `unexpected end`.
+/// of operators refuse, bytes that end in it, `unexpected end`, and want of memory.
 #[tactic(auto, unfolding(crate::specs::Initializers::expression))]
 pub(crate) fn read_expression<'a>(
     reader: &mut BinaryReader<'a>,
@@ -182,10 +196,12 @@ pub(crate) fn read_expression<'a>(
     lists: &mut OperatorLists,
     functions: &mut Vec<u32>,
 ) -> Result<BinaryReader<'a>, ReadError>
-    ensures { IfOk result (λ read. (names : List ℕ)
+    ensures read { IfOk result (λ read. (names : List ℕ)
         × (expression canonical.entry reader.old.left
         ≡ Some (record { bytes = read.left; functions = names }, reader.new.left))
         × (functions.new.items ≡ functions.old.items ++ names)) }
+    ensures refused { IfErr result (λ e. e.cause ≢ OutOfMemory
+        → expression canonical.entry reader.old.left ≡ Option.None) }
 {
     let mut start = reader.duplicate();
     read_operators(reader, canonical, lists, functions)?;

@@ -6,20 +6,22 @@
 //! alone, and names none of its own group, is the same both ways, and is read once.
 
 ghost use Rattle.std.specs.Prelude.{ℕ, ◌≡◌, ◌≢◌, true, false, List, [], ◌++◌, length, slice_get, Some, None};
-ghost use Rattle.std.specs.Prelude.{IfOk, IfSome, OnOk, IsSome, unwrap_or};
+ghost use Rattle.std.specs.Prelude.{IfOk, IfErr, IfSome, OnOk, OnErr, IsSome, unwrap_or};
 ghost use Rattle.std.specs.BTreeMap.{get, Updates};
 ghost use Rattle.std.specs.List.{range_with_len};
 ghost use Rattle.std.specs.Ordering.{nat_cmp};
+ghost use Rattle.binary_operators.specs.declared.error.Cause.TheVariants.{OutOfMemory};
 ghost use Rattle.binary_operators.specs.declared.types.GroupNames.TheVariants.{Places, Indices};
 ghost use Rattle.validate_types.specs.declared.types.SubType.{SubType};
 ghost use Rattle.binary_modules.specs.Groups.{Group, group_count, AreTypes};
 ghost use Rattle.binary_modules.specs.Read.{HasTypes, ReadsAnyhow, IsMixed, IsUnlike, Notes, Keeps, Knows};
 ghost use Rattle.binary_modules.specs.Read.{alone_at, rolled_cmp, HasRead, HasReadTypes, HasReadGroup};
+ghost use Rattle.binary_modules.specs.Read.{HasNoTypes, HasNoRolled, HasNoGroup, ReadsNoType, AreNoTypes};
 
 use crate::lists::{list_for, make_room, read_so_many};
 use crate::mixed::{RolledGroup, mix_types};
 use crate::subtypes::{read_mark, read_sub_type};
-use binary_operators::{BinaryReader, CanonicalTypes, Cause, Fault, GroupNames, ReadError, push};
+use binary_operators::{BinaryReader, CanonicalTypes, Cause, GroupNames, ReadError, push};
 use module_rules::RecGroup;
 use std::alloc::Global;
 use std::collections::BTreeMap;
@@ -61,17 +63,21 @@ impl Groups {
         }
     }
 
-    /// What stands at a number: what stood there, or else this. It refuses want of memory.
+    /// What stands at a number: what stood there, or else this. It refuses want of memory alone.
     fn note(&mut self, number: u64, alone: Option<u32>) -> Result<Option<u32>, ReadError>
         ensures stands { IfOk result (λ first. first ≡ unwrap_or (get nat_cmp self.old.numbers number) alone) }
         ensures noted { OnOk result (Notes self.old self.new number alone) }
+        ensures short { IfErr result (λ e. e.cause ≡ OutOfMemory) }
     {
-        let first = self.numbers.entry(number)?.or_insert(alone);
+        let Ok(entry) = self.numbers.entry(number) else {
+            return Err(ReadError::out_of_memory(0));
+        };
+        let first = entry.or_insert(alone);
         Ok(*first)
     }
 
     /// The index that stands at the number of a group, if the type at it is the group alone, or isn't declared yet. If
-    /// nothing stands there, this is put there. It refuses want of memory.
+    /// nothing stands there, this is put there. It refuses want of memory alone.
     fn find_alone(
         &mut self,
         types: &[SubType],
@@ -85,6 +91,7 @@ impl Groups {
         ensures same { IfOk result (λ found. IfSome found (λ first. IsSome (slice_get types.now first)
             → alone_at types.now first ≡ Some group.now)) }
         ensures other { IfOk result (λ found. found ≡ None → IsUnlike self.new types.now number group.now) }
+        ensures short { IfErr result (λ e. e.cause ≡ OutOfMemory) }
     {
         let Some(first) = self.note(number, alone)? else {
             return Ok(None);
@@ -96,21 +103,26 @@ impl Groups {
     }
 
     /// The index that stands for a group among the others: that of the first that is equal, or else this one, by
-    /// which it is kept. It refuses want of memory.
+    /// which it is kept. It refuses want of memory alone.
     fn find_other(&mut self, group: RolledGroup, own: u32) -> Result<u32, ReadError>
         ensures first { IfOk result (λ first. first ≡ unwrap_or (get rolled_cmp self.old.others group) own) }
         ensures kept { IfOk result (λ first. Updates rolled_cmp self.old.others self.new.others group (Some first)) }
         ensures numbers { self.new.numbers ≡ self.old.numbers }
+        ensures short { IfErr result (λ e. e.cause ≡ OutOfMemory) }
     {
-        let first = self.others.entry(group)?.or_insert(own);
+        let Ok(entry) = self.others.entry(group) else {
+            return Err(ReadError::out_of_memory(0));
+        };
+        let first = entry.or_insert(own);
         Ok(*first)
     }
 
     /// The index that stands for that of the first type of a group: that of the first group that is equal, or its
-    /// own, by which it is kept. These are the types of the module. It refuses want of memory.
+    /// own, by which it is kept. These are the types of the module. It refuses want of memory alone.
     fn find(&mut self, types: &[SubType], group: RolledGroup, own: u32) -> Result<u32, ReadError>
-        ensures { IfOk result (λ first. IsMixed group
+        ensures kept { IfOk result (λ first. IsMixed group
             → Keeps self.old self.new types.now types.now group.types.items own first) }
+        ensures short { IfErr result (λ e. e.cause ≡ OutOfMemory) }
     {
         let found = self.find_alone(types, group.types.as_slice(), group.mixed, None)?;
         match found {
@@ -154,6 +166,7 @@ impl TypeSection {
         ensures types { self.new.types.items ≡ self.old.types.items }
         ensures canonical { self.new.canonical.items ≡ self.old.canonical.items }
         ensures groups { self.new.groups ≡ self.old.groups }
+        ensures short { IfErr result (λ e. e.cause ≡ OutOfMemory) }
     {
         make_room(&mut self.types, reader, count)?;
         make_room(&mut self.canonical, reader, count)
@@ -164,22 +177,25 @@ impl TypeSection {
         ensures types { self.new.types.items ≡ self.old.types.items }
         ensures canonical { self.new.canonical.items ≡ self.old.canonical.items }
         ensures groups { self.new.groups.items ≡ self.old.groups.items }
+        ensures short { IfErr result (λ e. e.cause ≡ OutOfMemory) }
     {
         self.make_room_for_types(reader, count)?;
         make_room(&mut self.groups, reader, count)
     }
 
-    /// Says of so many types, behind those that are there, that those from this index on stand for them. It refuses an
-    /// index past 2^32 at the offset, and want of memory.
+    /// Says of so many types, behind those that are there, that those from this index on stand for them. It refuses want
+    /// of memory alone: where an index would be past 2^32, at the offset.
     fn name(&mut self, first: u32, count: u32, offset: u64) -> Result<(), ReadError>
         ensures canonical { OnOk result (self.new.canonical.items
             ≡ self.old.canonical.items ++ range_with_len first count) }
         ensures types { self.new.types ≡ self.old.types }
         ensures groups { self.new.groups ≡ self.old.groups }
+        ensures short { IfErr result (λ e. e.cause ≡ OutOfMemory) }
     {
         for place in 0..count {
+            // No index is left for such a type.
             let Some(index) = first.checked_add(place) else {
-                return Err(ReadError::malformed(Fault::TypeIndexTooLarge, offset));
+                return Err(ReadError::out_of_memory(offset));
             };
             push(&mut self.canonical, index)?;
         }
@@ -201,6 +217,8 @@ impl TypeSection {
         ensures canonical { OnOk result (self.new.canonical.items
             ≡ self.old.canonical.items ++ range_with_len first count) }
         ensures groups { self.new.groups ≡ self.old.groups }
+        ensures refused { IfErr result (λ e. e.cause ≢ OutOfMemory
+            → HasNoTypes self.old.canonical.items (Indices first) count reader.old.left) }
     {
         let offset = reader.offset();
         self.make_room_for_types(reader, count)?;
@@ -219,7 +237,7 @@ impl TypeSection {
 
     /// Declares a type that is a group alone, and names none of its own group, behind those that are there. Its own
     /// index is this one. Where another group has its number, it is kept among the others, and read again. It refuses
-    /// want of memory.
+    /// want of memory alone, where the type is read there.
     fn declare_alone(
         &mut self,
         alloc: Global,
@@ -228,10 +246,12 @@ impl TypeSection {
         own: u32,
         groups: &mut Groups,
     ) -> Result<(), ReadError>
-        ensures { OnOk result ((before : List Group) (rest : List ℕ) → HasRead self.old groups.old before
+        ensures read { OnOk result ((before : List Group) (rest : List ℕ) → HasRead self.old groups.old before
             → own ≡ length self.old.canonical.items
             → ReadsAnyhow self.old.canonical.items again.old.left ty rest
             → HasReadTypes before 1 again.old.left rest self.old self.new groups.new) }
+        ensures refused { IfErr result (λ e. e.cause ≢ OutOfMemory
+            → ReadsNoType self.old.canonical.items again.old.left ty) }
     {
         let number = mix_types(slice::from_ref(&ty));
         let found = groups.find_alone(&self.types, slice::from_ref(&ty), number, Some(own))?;
@@ -258,9 +278,12 @@ impl TypeSection {
         count: u32,
         groups: &mut Groups,
     ) -> Result<(), ReadError>
-        ensures { OnOk result ((before : List Group) → HasRead self.old groups.old before
+        ensures read { OnOk result ((before : List Group) → HasRead self.old groups.old before
             → own ≡ length self.old.canonical.items
             → HasReadTypes before count reader.old.left reader.new.left self.old self.new groups.new) }
+        ensures refused { IfErr result (λ e. e.cause ≢ OutOfMemory → (before : List Group)
+            → HasRead self.old groups.old before → own ≡ length self.old.canonical.items
+            → HasNoRolled before count reader.old.left self.old.canonical.items) }
     {
         let mut again = reader.duplicate();
         let rolled = read_rolled(alloc, reader, &self.canonical, count)?;
@@ -279,9 +302,12 @@ impl TypeSection {
         count: u32,
         groups: &mut Groups,
     ) -> Result<(), ReadError>
-        ensures { OnOk result ((before : List Group) → HasRead self.old groups.old before
+        ensures read { OnOk result ((before : List Group) → HasRead self.old groups.old before
             → own ≡ length self.old.canonical.items
             → HasReadTypes before count reader.old.left reader.new.left self.old self.new groups.new) }
+        ensures refused { IfErr result (λ e. e.cause ≢ OutOfMemory → (before : List Group)
+            → HasRead self.old groups.old before → own ≡ length self.old.canonical.items
+            → HasNoRolled before count reader.old.left self.old.canonical.items) }
     {
         let mut again = reader.duplicate();
         let alone = read_alone(alloc, reader, &self.canonical, count)?;
@@ -291,19 +317,23 @@ impl TypeSection {
         }
     }
 
-    /// Reads a group behind those that were read. It refuses what the reads of its types refuse, and want of memory.
+    /// Reads a group behind those that were read. It refuses what the reads of its types refuse, and want of memory: as
+    /// that counts also where no index is left for a type.
     fn read_group(
         &mut self,
         alloc: Global,
         reader: &mut BinaryReader<'_>,
         groups: &mut Groups,
     ) -> Result<(), ReadError>
-        ensures { OnOk result ((before : List Group) → HasRead self.old groups.old before
+        ensures read { OnOk result ((before : List Group) → HasRead self.old groups.old before
             → HasReadGroup before reader.old.left reader.new.left self.new groups.new) }
+        ensures refused { IfErr result (λ e. e.cause ≢ OutOfMemory → (before : List Group)
+            → HasRead self.old groups.old before → HasNoGroup before reader.old.left) }
     {
         let offset = reader.offset();
+        // No index is left for its first type.
         let Ok(own) = u32::try_from(self.canonical.len()) else {
-            return Err(ReadError::malformed(Fault::TypeIndexTooLarge, offset));
+            return Err(ReadError::out_of_memory(offset));
         };
         let explicit = read_mark(reader, 0x4e)?;
         let count = read_count(reader, explicit)?;
@@ -321,7 +351,7 @@ impl TypeSection {
 }
 
 /// Reads a type that is a group alone, where a group has so many, and names none of its own group. Other groups aren't
-/// read. It refuses want of memory.
+/// read. It refuses want of memory alone.
 fn read_alone(
     alloc: Global,
     reader: &mut BinaryReader<'_>,
@@ -332,6 +362,7 @@ fn read_alone(
         reader.new.left)) }
     ensures one { IfOk result (λ found. IsSome found → count ≡ 1) }
     ensures unread { IfOk result (λ found. found ≡ None → reader.new ≡ reader.old) }
+    ensures short { IfErr result (λ e. e.cause ≡ OutOfMemory) }
 {
     if count != 1 {
         return Ok(None);
@@ -353,7 +384,8 @@ fn read_alone(
 
 /// Reads how many types a group has, which is written as a list or not.
 fn read_count(reader: &mut BinaryReader<'_>, explicit: bool) -> Result<u32, ReadError>
-    ensures { IfOk result (λ count. group_count explicit reader.old.left ≡ Some (count, reader.new.left)) }
+    ensures read { IfOk result (λ count. group_count explicit reader.old.left ≡ Some (count, reader.new.left)) }
+    ensures refused { OnErr result (group_count explicit reader.old.left ≡ None) }
 {
     if explicit {
         return reader.read_var_u32();
@@ -361,15 +393,18 @@ fn read_count(reader: &mut BinaryReader<'_>, explicit: bool) -> Result<u32, Read
     Ok(1)
 }
 
-/// Reads so many types of a group, rolled up, where these stand for the types before it.
+/// Reads so many types of a group, rolled up, where these stand for the types before it. It refuses what the reads of the
+/// types refuse, and want of memory.
 fn read_rolled(
     alloc: Global,
     reader: &mut BinaryReader<'_>,
     canonical: &[u32],
     count: u32,
 ) -> Result<Vec<SubType>, ReadError>
-    ensures { IfOk result (λ types. HasTypes canonical.now Places count reader.old.left types.items
+    ensures read { IfOk result (λ types. HasTypes canonical.now Places count reader.old.left types.items
         reader.new.left) }
+    ensures refused { IfErr result (λ e. e.cause ≢ OutOfMemory
+        → HasNoTypes canonical.now Places count reader.old.left) }
 {
     let mut types = list_for(alloc, reader, count)?;
     let names = CanonicalTypes::in_group(canonical, GroupNames::Places);
@@ -377,11 +412,12 @@ fn read_rolled(
     Ok(types)
 }
 
-/// Reads the types of a module, group by group. It refuses what the reads of types refuse, more types than 2^32, `type
-/// index greater than implementation limits`, and want of memory.
+/// Reads the types of a module, group by group. It refuses what the reads of types refuse, and want of memory: as that
+/// count also more types than 2^32.
 pub fn read_types(alloc: Global, reader: &mut BinaryReader<'_>) -> Result<TypeSection, ReadError>
-    ensures { IfOk result (λ section. AreTypes reader.old.left section.types.items section.canonical.items
+    ensures read { IfOk result (λ section. AreTypes reader.old.left section.types.items section.canonical.items
         section.groups.items reader.new.left) }
+    ensures refused { IfErr result (λ e. e.cause ≢ OutOfMemory → AreNoTypes reader.old.left) }
 {
     let count = reader.read_var_u32()?;
     let mut section = TypeSection::new(alloc);

@@ -1,7 +1,8 @@
 //! Imports (WebAssembly core specification, "Binary Format: Modules", "Import Section").
 
-ghost use Rattle.std.specs.Prelude.{◌≡◌, List, [], ◌∷◌, Some, None, IfOk, OnOk, OnErr};
+ghost use Rattle.std.specs.Prelude.{◌≡◌, ◌≢◌, List, [], ◌∷◌, Some, None, IfOk, IfErr, OnOk, OnErr};
 ghost use Rattle.binary_operators.specs.Values.{list_of};
+ghost use Rattle.binary_operators.specs.declared.error.Cause.TheVariants.{OutOfMemory};
 ghost use Rattle.binary_modules.specs.Items.{import_behind, import_item, unplaced_import};
 ghost use Rattle.binary_modules.specs.Imports.{AddsImports, AreImports, HasImports};
 
@@ -104,9 +105,10 @@ impl Imported {
         }
     }
 
-    /// Adds an imported item. It refuses want of memory.
+    /// Adds an imported item. It refuses want of memory alone.
     fn add(&mut self, import: Import) -> Result<(), ReadError>
-        ensures { OnOk result (AddsImports self.old (unplaced_import import ∷ []) self.new) }
+        ensures added { OnOk result (AddsImports self.old (unplaced_import import ∷ []) self.new) }
+        ensures short { IfErr result (λ e. e.cause ≡ OutOfMemory) }
     {
         match import {
             Import::Function(function) => push(&mut self.functions, function),
@@ -127,7 +129,9 @@ pub(crate) fn read_imports(
     imported: &mut Imported,
 ) -> Result<(), ReadError>
     requires { AreImports [] imported.old }
-    ensures { OnOk result (HasImports canonical.entry reader.old.left imported.new reader.new.left) }
+    ensures read { OnOk result (HasImports canonical.entry reader.old.left imported.new reader.new.left) }
+    ensures refused { IfErr result (λ e. e.cause ≢ OutOfMemory
+        → list_of (import_item canonical.entry) reader.old.left ≡ None) }
 {
     let count = reader.read_var_u32()?;
     for _ in 0..count {

@@ -1,7 +1,8 @@
 //! The constant expressions of a module, and tables and globals that have them (WebAssembly core specification, "Binary
 //! Format: Modules").
 
-ghost use Rattle.std.specs.Prelude.{ℕ, ◌≡◌, List, [], ◌∷◌, Some, IfOk, OnOk};
+ghost use Rattle.std.specs.Prelude.{ℕ, ◌≡◌, ◌≢◌, List, [], ◌∷◌, Some, None, IfOk, IfErr, OnOk};
+ghost use Rattle.binary_operators.specs.declared.error.Cause.TheVariants.{OutOfMemory};
 ghost use Rattle.binary_modules.specs.Initializers.{Expression, expression};
 ghost use Rattle.binary_modules.specs.Kept.{Adds};
 
@@ -57,9 +58,11 @@ impl<'a> Initializers<'a> {
         canonical: CanonicalTypes<'_>,
         place: Place,
     ) -> Result<(), ReadError>
-        ensures { OnOk result ((e : Expression)
+        ensures read { OnOk result ((e : Expression)
             × (expression canonical.entry reader.old.left ≡ Some (e, reader.new.left))
             × Adds self.old ((place, e) ∷ []) self.new) }
+        ensures refused { IfErr result (λ e. e.cause ≢ OutOfMemory
+            → expression canonical.entry reader.old.left ≡ None) }
     {
         let bytes = read_expression(reader, canonical, &mut self.lists, &mut self.functions)?;
         push(&mut self.expressions, ConstantExpression { place, bytes })

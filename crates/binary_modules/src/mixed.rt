@@ -1,7 +1,8 @@
 //! A recursion group behind a number that is mixed from its types. Groups are looked for by it: only where numbers are
 //! equal does a search look at types.
 
-ghost use Rattle.std.specs.Prelude.{◌≡◌, [], ◌∷◌, IfOk};
+ghost use Rattle.std.specs.Prelude.{◌≡◌, [], ◌∷◌, IfOk, IfErr};
+ghost use Rattle.binary_operators.specs.declared.error.Cause.TheVariants.{OutOfMemory};
 ghost use Rattle.binary_modules.specs.Mixed.{mix_index, mix_heap, mix_value, mix_values, mix_field};
 ghost use Rattle.binary_modules.specs.Mixed.{mix_fields, mix_inner, mix_above, mix_type, mix_types};
 
@@ -34,10 +35,11 @@ impl RolledGroup {
         }
     }
 
-    /// A group of this type alone. It refuses want of memory.
+    /// A group of this type alone. It refuses want of memory alone.
     pub(crate) fn of_one(alloc: Global, ty: SubType) -> Result<RolledGroup, ReadError>
         ensures types { IfOk result (λ group. group.types.items ≡ ty ∷ []) }
         ensures mixed { IfOk result (λ group. group.mixed ≡ mix_types (ty ∷ [])) }
+        ensures short { IfErr result (λ e. e.cause ≡ OutOfMemory) }
     {
         let mut types = Vec::new(alloc);
         push(&mut types, ty)?;

@@ -1,6 +1,8 @@
 //! The items of a module's own, and its segments (WebAssembly core specification, "Binary Format: Modules").
 
-ghost use Rattle.std.specs.Prelude.{IfOk, OnOk};
+ghost use Rattle.std.specs.Prelude.{◌≢◌, IfOk, IfErr, OnOk};
+ghost use Rattle.binary_operators.specs.declared.error.Cause.TheVariants.{OutOfMemory};
+ghost use Rattle.binary_modules.specs.Modules.{Contents, AreContents};
 ghost use Rattle.binary_modules.specs.OwnRead.{HasOwnItems, HasSegments};
 ghost use Rattle.binary_modules.specs.SectionList.{told_sections};
 
@@ -12,7 +14,8 @@ use binary_operators::{CanonicalTypes, ReadError};
 use module_rules::{Data, Element};
 use std::alloc::Global;
 
-/// Reads the functions, tables, memories, tags and globals of a module's own, behind those that are imported.
+/// Reads the functions, tables, memories, tags and globals of a module's own, behind those that are imported. It refuses
+/// what the reads of their sections refuse.
 pub(crate) fn read_own_items<'a>(
     alloc: Global,
     sections: &[ContentSection<'a>],
@@ -20,8 +23,10 @@ pub(crate) fn read_own_items<'a>(
     items: &mut Imported,
     initializers: &mut Initializers<'a>,
 ) -> Result<(), ReadError>
-    ensures { OnOk result (HasOwnItems canonical.entry (told_sections sections.now) items.old items.new
+    ensures read { OnOk result (HasOwnItems canonical.entry (told_sections sections.now) items.old items.new
         initializers.old initializers.new) }
+    ensures refused { IfErr result (λ e. e.cause ≢ OutOfMemory → (contents : Contents)
+        → AreContents canonical.entry (told_sections sections.now) contents → ⊥) }
 {
     read_plain_section(alloc, sections, 3, canonical, &mut items.functions)?;
     read_section_of(sections, 4, canonical, &mut items.tables, initializers)?;
@@ -40,14 +45,16 @@ pub(crate) struct Segments {
     pub data_segments: Vec<Data>,
 }
 
-/// Reads the segments of a module.
+/// Reads the segments of a module. It refuses what the reads of their sections refuse.
 pub(crate) fn read_segments<'a>(
     sections: &[ContentSection<'a>],
     canonical: CanonicalTypes<'_>,
     initializers: &mut Initializers<'a>,
 ) -> Result<Segments, ReadError>
-    ensures { IfOk result (λ s. HasSegments canonical.entry (told_sections sections.now) s
+    ensures read { IfOk result (λ s. HasSegments canonical.entry (told_sections sections.now) s
         initializers.old initializers.new) }
+    ensures refused { IfErr result (λ e. e.cause ≢ OutOfMemory → (contents : Contents)
+        → AreContents canonical.entry (told_sections sections.now) contents → ⊥) }
 {
     let alloc = initializers.allocator();
     let mut elements = Vec::new(alloc);

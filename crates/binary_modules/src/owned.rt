@@ -1,7 +1,8 @@
 //! What a module declares of its own besides types and segments (WebAssembly core specification, "Binary Format:
 //! Modules").
 
-ghost use Rattle.std.specs.Prelude.{◌≡◌, [], ◌∷◌, Some, IfOk};
+ghost use Rattle.std.specs.Prelude.{◌≡◌, ◌≢◌, [], ◌∷◌, Some, None, IfOk, IfErr};
+ghost use Rattle.binary_operators.specs.declared.error.Cause.TheVariants.{OutOfMemory};
 ghost use Rattle.module_rules.specs.declared.items.DeclaredGlobal.{DeclaredGlobal};
 ghost use Rattle.module_rules.specs.declared.items.DeclaredTable.{DeclaredTable};
 ghost use Rattle.binary_modules.specs.Items.{Item, placed, own_function, initialized_table, table, memory, tag, global, exported};
@@ -23,6 +24,7 @@ impl Entry for DeclaredFunction {
 
     ghost unplaced = { λ f. record f { offset = 0 } };
 
+    #[tactic(auto, unfolding(crate::specs::Items::own_function))]
     fn read<'a>(
         reader: &mut BinaryReader<'a>,
         canonical: CanonicalTypes<'_>,
@@ -40,6 +42,7 @@ impl Entry for DeclaredMemory {
 
     ghost unplaced = { λ m. record m { offset = 0 } };
 
+    #[tactic(auto, unfolding(crate::specs::Items::memory))]
     fn read<'a>(
         reader: &mut BinaryReader<'a>,
         _canonical: CanonicalTypes<'_>,
@@ -57,6 +60,7 @@ impl Entry for DeclaredTag {
 
     ghost unplaced = { λ t. record t { offset = 0 } };
 
+    #[tactic(auto, unfolding(crate::specs::Items::tag))]
     fn read<'a>(
         reader: &mut BinaryReader<'a>,
         canonical: CanonicalTypes<'_>,
@@ -74,6 +78,7 @@ impl Entry for Export {
 
     ghost unplaced = { λ e. record e { offset = 0 } };
 
+    #[tactic(auto, unfolding(crate::specs::Items::exported))]
     fn read<'a>(
         reader: &mut BinaryReader<'a>,
         _canonical: CanonicalTypes<'_>,
@@ -85,7 +90,9 @@ impl Entry for Export {
     }
 }
 
-/// Reads a table whose elements have a constant expression, behind the mark of that.
+/// Reads a table whose elements have a constant expression, behind the mark of that. It refuses another byte than 0x00
+/// behind the mark, `invalid table encoding`, what the reads of its parts refuse, and want of memory.
+#[tactic(auto, unfolding(crate::specs::Items::initialized_table))]
 fn read_initialized_table<'a>(
     reader: &mut BinaryReader<'a>,
     canonical: CanonicalTypes<'_>,
@@ -93,10 +100,12 @@ fn read_initialized_table<'a>(
     offset: u64,
     initializers: &mut Initializers<'a>,
 ) -> Result<DeclaredTable, ReadError>
-    ensures { IfOk result (λ t. (item : Item DeclaredTable)
+    ensures read { IfOk result (λ t. (item : Item DeclaredTable)
         × (initialized_table canonical.entry reader.old.left ≡ Some (item, reader.new.left))
         × (item.declared ≡ record t { offset = 0 })
         × Adds initializers.old (placed index (item ∷ [])) initializers.new) }
+    ensures refused { IfErr result (λ e. e.cause ≢ OutOfMemory
+        → initialized_table canonical.entry reader.old.left ≡ None) }
 {
     let reserved_offset = reader.offset();
     let reserved = reader.read_u8()?;
@@ -113,6 +122,7 @@ impl Entry for DeclaredTable {
 
     ghost unplaced = { λ t. record t { offset = 0 } };
 
+    #[tactic(auto, unfolding(crate::specs::Items::table))]
     fn read<'a>(
         reader: &mut BinaryReader<'a>,
         canonical: CanonicalTypes<'_>,
@@ -140,6 +150,7 @@ impl Entry for DeclaredGlobal {
 
     ghost unplaced = { λ g. record g { offset = 0 } };
 
+    #[tactic(auto, unfolding(crate::specs::Items::global))]
     fn read<'a>(
         reader: &mut BinaryReader<'a>,
         canonical: CanonicalTypes<'_>,

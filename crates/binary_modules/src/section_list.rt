@@ -1,10 +1,11 @@
 //! The sections of a module (WebAssembly core specification, "Binary Format: Modules", "Sections").
 
-ghost use Rattle.std.specs.Prelude.{ℕ, ◌≡◌, true, List, [], ◌∷◌, ◌++◌, Some, IfOk, IfSome, OnOk, option_map};
+ghost use Rattle.std.specs.Prelude.{ℕ, ◌≡◌, ◌≢◌, true, List, [], ◌∷◌, ◌++◌, Some, None, IfOk, IfErr, IfSome, OnOk, OnErr, option_map};
 ghost use Rattle.std.specs.List.{list_all};
+ghost use Rattle.binary_operators.specs.declared.error.Cause.TheVariants.{OutOfMemory};
 ghost use Rattle.binary_modules.specs.Parts.{sized};
 ghost use Rattle.binary_modules.specs.SectionList.{told_section, told_sections};
-ghost use Rattle.binary_modules.specs.Sections.{section, ids_behind, next_ids, section_ids, contents_of, section_contents, is_named, AreSectionsIn, are_in_order};
+ghost use Rattle.binary_modules.specs.Sections.{Section, section, ids_behind, next_ids, section_ids, contents_of, section_contents, is_named, AreSectionsIn, are_in_order};
 ghost use Rattle.binary_modules.specs.declared.section_list.ContentSection.{ContentSection};
 
 use crate::parts::read_name;
@@ -23,7 +24,8 @@ pub(crate) struct ContentSection<'a> {
 /// Reads how many bytes there are, and answers a reader of these.
 #[tactic(auto, unfolding(crate::specs::Parts::sized))]
 pub(crate) fn read_part<'a>(reader: &mut BinaryReader<'a>) -> Result<BinaryReader<'a>, ReadError>
-    ensures { IfOk result (λ part. sized reader.old.left ≡ Some (part.left, reader.new.left)) }
+    ensures read { IfOk result (λ part. sized reader.old.left ≡ Some (part.left, reader.new.left)) }
+    ensures refused { OnErr result (sized reader.old.left ≡ None) }
 {
     let count = reader.read_var_u32()?;
     reader.part(count as usize)
@@ -31,7 +33,8 @@ pub(crate) fn read_part<'a>(reader: &mut BinaryReader<'a>) -> Result<BinaryReade
 
 /// Refuses a custom section that doesn't begin with a name.
 fn check_name(id: u8, contents: &BinaryReader<'_>) -> Result<(), ReadError>
-    ensures { OnOk result (is_named (record { id = id; contents = contents.now.left }) ≡ true) }
+    ensures named { OnOk result (is_named (record { id = id; contents = contents.now.left }) ≡ true) }
+    ensures refused { OnErr result (is_named (record { id = id; contents = contents.now.left }) ≢ true) }
 {
     if id == 0 {
         let _name = read_name(&mut contents.duplicate())?;
@@ -44,6 +47,8 @@ fn check_name(id: u8, contents: &BinaryReader<'_>) -> Result<(), ReadError>
 fn read_section<'a>(reader: &mut BinaryReader<'a>) -> Result<ContentSection<'a>, ReadError>
     ensures read { IfOk result (λ s. section reader.old.left ≡ Some (told_section s, reader.new.left)) }
     ensures named { IfOk result (λ s. is_named (told_section s) ≡ true) }
+    ensures refused { OnErr result ((s : Section) → (behind : List ℕ)
+        → section reader.old.left ≡ Some (s, behind) → is_named s ≢ true) }
 {
     let id = reader.read_u8()?;
     let contents = read_part(reader)?;
@@ -53,7 +58,8 @@ fn read_section<'a>(reader: &mut BinaryReader<'a>) -> Result<ContentSection<'a>,
 
 /// The ids behind this one, if it is among them.
 fn ids_behind(ids: &'static [u8], id: u8) -> Option<&'static [u8]>
-    ensures { IfSome result (λ rest. ids_behind id ids.entry.now ≡ Some rest.now) }
+    ensures found { IfSome result (λ rest. ids_behind id ids.entry.now ≡ Some rest.now) }
+    ensures missing { result ≡ None → ids_behind id ids.entry.now ≡ None }
 {
     for place in 0..ids.len() {
         if ids[place] == id {
@@ -65,7 +71,8 @@ fn ids_behind(ids: &'static [u8], id: u8) -> Option<&'static [u8]>
 
 /// The ids that may follow a section with this one, where these may follow the section before it.
 fn next_ids(ids: &'static [u8], id: u8) -> Option<&'static [u8]>
-    ensures { IfSome result (λ rest. next_ids id ids.entry.now ≡ Some rest.now) }
+    ensures found { IfSome result (λ rest. next_ids id ids.entry.now ≡ Some rest.now) }
+    ensures missing { result ≡ None → next_ids id ids.entry.now ≡ None }
 {
     if id == 0 {
         return Some(ids);
@@ -113,11 +120,13 @@ fn read_next<'a>(
     sections: &mut Vec<ContentSection<'a>>,
     ids: &'static [u8],
 ) -> Result<&'static [u8], ReadError>
-    ensures { IfOk result (λ rest. (s : ContentSection)
+    ensures read { IfOk result (λ rest. (s : ContentSection)
         × (section reader.old.left ≡ Some (told_section s, reader.new.left))
         × (is_named (told_section s) ≡ true)
         × (next_ids s.id ids.entry.now ≡ Some rest.now)
         × (sections.new.items ≡ sections.old.items ++ s ∷ [])) }
+    ensures refused { IfErr result (λ e. e.cause ≢ OutOfMemory → (s : Section) → (behind : List ℕ)
+        → section reader.old.left ≡ Some (s, behind) → is_named s ≡ true → next_ids s.id ids.entry.now ≡ None) }
 {
     let offset = reader.offset();
     let section = read_section(reader)?;
@@ -145,6 +154,9 @@ pub(crate) fn read_sections<'a>(
     ensures read { IfOk result (λ list. AreSectionsIn reader.old.left (told_sections list.items) []) }
     ensures ordered { IfOk result (λ list. are_in_order section_ids (told_sections list.items) ≡ true) }
     ensures named { IfOk result (λ list. list_all is_named (told_sections list.items) ≡ true) }
+    ensures refused { IfErr result (λ e. e.cause ≢ OutOfMemory → (sections : List Section)
+        → AreSectionsIn reader.old.left sections [] → are_in_order section_ids sections ≡ true
+        → list_all is_named sections ≢ true) }
 {
     let mut sections = Vec::new(alloc);
     let mut ids = SECTION_IDS.as_slice();

@@ -1,20 +1,25 @@
 //! A whole module (WebAssembly core specification, "Binary Format: Modules").
 
-ghost use Rattle.std.specs.Prelude.{ℕ, ◌≡◌, ◌+◌, List, [], ◌∷◌, ◌++◌, map, length, Some, IfOk, OnOk, IfSome, option_map};
+ghost use Rattle.std.specs.Prelude.{ℕ, ◌≡◌, ◌≢◌, ◌+◌, List, [], ◌∷◌, ◌++◌, map, length, Some, IfOk, IfErr, OnOk, OnErr, IfSome, option_map};
 ghost use Rattle.binary_operators.specs.Values.{list_of};
-ghost use Rattle.module_rules.specs.Declarations.{declarations_of};
+ghost use Rattle.binary_operators.specs.declared.error.Cause.TheVariants.{OutOfMemory};
+ghost use Rattle.module_rules.specs.Declarations.{Declarations, declarations_of};
 ghost use Rattle.module_rules.specs.Exported.{Exported};
+ghost use Rattle.module_rules.specs.declared.items.RecGroup.{RecGroup};
+ghost use Rattle.module_rules.specs.declared.module.Place.{Place};
+ghost use Rattle.validate_types.specs.declared.types.SubType.{SubType};
 ghost use Rattle.binary_modules.specs.ContentsRead.{IsList, bytes_of};
 ghost use Rattle.binary_modules.specs.Groups.{AreTypes};
 ghost use Rattle.binary_modules.specs.Imports.{HasImports, AreCounted};
-ghost use Rattle.binary_modules.specs.Items.{Item, exported};
+ghost use Rattle.binary_modules.specs.Items.{Item, exported, import_item};
 ghost use Rattle.binary_modules.specs.Kept.{told};
-ghost use Rattle.binary_modules.specs.Modules.{HasContents, IsModule};
+ghost use Rattle.binary_modules.specs.Modules.{Contents, AreContents, HasContents, IsModule, IsNoModule};
 ghost use Rattle.binary_modules.specs.OwnRead.{HasOwnItems, HasSegments};
 ghost use Rattle.binary_modules.specs.Parts.{sized};
 ghost use Rattle.binary_modules.specs.SectionList.{told_sections};
 ghost use Rattle.binary_modules.specs.Sections.{contents_of, section_contents, IsNumber};
 ghost use Rattle.binary_modules.specs.declared.contents.SectionNumber.{SectionNumber};
+ghost use Rattle.binary_modules.specs.declared.imports.Import.{Import};
 ghost use Rattle.binary_modules.specs.declared.imports.Imported.{Imported};
 
 use crate::contents::{
@@ -51,7 +56,8 @@ fn read_expected(
     expected: &[u8],
     fault: Fault,
 ) -> Result<(), ReadError>
-    ensures { OnOk result (reader.old.left ≡ expected.now ++ reader.new.left) }
+    ensures read { OnOk result (reader.old.left ≡ expected.now ++ reader.new.left) }
+    ensures refused { OnErr result ((rest : List ℕ) → reader.old.left ≢ expected.now ++ rest) }
 {
     let offset = reader.offset();
     if reader.read_bytes(expected.len())? == expected {
@@ -60,22 +66,27 @@ fn read_expected(
     Err(ReadError::malformed(fault, offset))
 }
 
-/// Reads the magic number and the version that a module begins with.
+/// Reads the magic number and the version that a module begins with. It refuses others.
 fn read_header(reader: &mut BinaryReader<'_>) -> Result<(), ReadError>
-    ensures { OnOk result (reader.old.left
+    ensures read { OnOk result (reader.old.left
         ≡ 0x00 ∷ 0x61 ∷ 0x73 ∷ 0x6d ∷ 0x01 ∷ 0x00 ∷ 0x00 ∷ 0x00 ∷ reader.new.left) }
+    ensures refused { OnErr result ((rest : List ℕ) → reader.old.left
+        ≢ 0x00 ∷ 0x61 ∷ 0x73 ∷ 0x6d ∷ 0x01 ∷ 0x00 ∷ 0x00 ∷ 0x00 ∷ rest) }
 {
     read_expected(reader, b"\0asm".as_slice(), Fault::NoMagicHeader)?;
     read_expected(reader, [1, 0, 0, 0].as_slice(), Fault::UnknownVersion)
 }
 
-/// Reads the types of a module.
+/// Reads the types of a module. It refuses what their reads refuse, and bytes behind them, `section size mismatch`.
 fn read_type_section(
     alloc: Global,
     sections: &[ContentSection<'_>],
 ) -> Result<TypeSection, ReadError>
-    ensures { IfOk result (λ s. AreTypes (contents_of 1 (told_sections sections.now)) s.types.items
+    ensures read { IfOk result (λ s. AreTypes (contents_of 1 (told_sections sections.now)) s.types.items
         s.canonical.items s.groups.items []) }
+    ensures refused { IfErr result (λ e. e.cause ≢ OutOfMemory → (types : List SubType) → (canonical : List ℕ)
+        → (written : List RecGroup)
+        → AreTypes (contents_of 1 (told_sections sections.now)) types canonical written [] → ⊥) }
 {
     let mut reader = contents_of(sections, 1);
     let section = read_types(alloc, &mut reader)?;
@@ -83,13 +94,15 @@ fn read_type_section(
     Ok(section)
 }
 
-/// Reads the imports of a module.
+/// Reads the imports of a module. It refuses what their reads refuse, and bytes behind them, `section size mismatch`.
 fn read_import_section(
     alloc: Global,
     sections: &[ContentSection<'_>],
     canonical: CanonicalTypes<'_>,
 ) -> Result<Imported, ReadError>
-    ensures { IfOk result (λ i. HasImports canonical.entry (contents_of 2 (told_sections sections.now)) i []) }
+    ensures read { IfOk result (λ i. HasImports canonical.entry (contents_of 2 (told_sections sections.now)) i []) }
+    ensures refused { IfErr result (λ e. e.cause ≢ OutOfMemory → (imports : List Import)
+        → list_of (import_item canonical.entry) (contents_of 2 (told_sections sections.now)) ≢ Some (imports, [])) }
 {
     let mut reader = contents_of(sections, 2);
     let mut imported = Imported::new(alloc);
@@ -98,19 +111,21 @@ fn read_import_section(
     Ok(imported)
 }
 
-/// So many items, as an index counts them. It refuses more than 2^32.
+/// So many items, as an index counts them. It refuses more than 2^32, for want of memory: no index stands for those.
 fn count_of(count: usize) -> Result<u32, ReadError>
-    ensures { IfOk result (λ n. n ≡ count) }
+    ensures read { IfOk result (λ n. n ≡ count) }
+    ensures short { IfErr result (λ e. e.cause ≡ OutOfMemory) }
 {
     let Ok(count) = u32::try_from(count) else {
-        return Err(ReadError::malformed(Fault::TypeIndexTooLarge, 0));
+        return Err(ReadError::out_of_memory(0));
     };
     Ok(count)
 }
 
-/// How many items of each kind are imported, from this offset on.
+/// How many items of each kind are imported, from this offset on. It refuses want of memory alone.
 fn imports_of(items: &Imported, offset: u64) -> Result<Imports, ReadError>
-    ensures { IfOk result (λ i. AreCounted items.now i) }
+    ensures counted { IfOk result (λ i. AreCounted items.now i) }
+    ensures short { IfErr result (λ e. e.cause ≡ OutOfMemory) }
 {
     let functions = count_of(items.functions.len())?;
     let tables = count_of(items.tables.len())?;
@@ -133,8 +148,10 @@ fn read_exports(
     sections: &[ContentSection<'_>],
     canonical: CanonicalTypes<'_>,
 ) -> Result<Vec<Export>, ReadError>
-    ensures { IfOk result (λ list. (read : List (Item Exported))
+    ensures read { IfOk result (λ list. (read : List (Item Exported))
         × IsList exported (λ e. record e { offset = 0 }) 7 (told_sections sections.now) [] list.items read) }
+    ensures refused { IfErr result (λ e. e.cause ≢ OutOfMemory → (read : List (Item Exported))
+        → list_of exported (contents_of 7 (told_sections sections.now)) ≢ Some (read, [])) }
 {
     let mut exports = Vec::new(alloc);
     read_plain_section(alloc, sections, 7, canonical, &mut exports)?;
@@ -169,7 +186,8 @@ fn data_count_of(number: Option<SectionNumber>) -> Option<DataCount>
 
 /// Refuses, at the end of a module, other than so many bodies as functions that aren't imported (`InconsistentCode`).
 fn check_bodies(imported: u32, functions: usize, bodies: usize, end: u64) -> Result<(), ReadError>
-    ensures { OnOk result (imported + bodies ≡ functions) }
+    ensures counted { OnOk result (imported + bodies ≡ functions) }
+    ensures refused { OnErr result (imported + bodies ≢ functions) }
 {
     if functions.checked_sub(imported as usize) == Some(bodies) {
         return Ok(());
@@ -183,7 +201,10 @@ fn check_data_count(
     segments: usize,
     end: u64,
 ) -> Result<(), ReadError>
-    ensures { OnOk result (IfSome (option_map (λ (n : SectionNumber). n.number) number) (λ n. n ≡ segments)) }
+    ensures counted { OnOk result (IfSome (option_map (λ (n : SectionNumber). n.number) number)
+        (λ n. n ≡ segments)) }
+    ensures refused { OnErr result (IfSome (option_map (λ (n : SectionNumber). n.number) number)
+        (λ n. n ≡ segments) → ⊥) }
 {
     match number {
         Some(n) if n.number as usize != segments => {
@@ -227,11 +248,13 @@ fn read_items<'a>(
     canonical: CanonicalTypes<'_>,
     initializers: &mut Initializers<'a>,
 ) -> Result<Items, ReadError>
-    ensures { IfOk result (λ i. (imported : Imported)
+    ensures read { IfOk result (λ i. (imported : Imported)
         × HasImports canonical.entry (contents_of 2 (told_sections sections.now)) imported []
         × AreCounted imported i.imports
         × HasOwnItems canonical.entry (told_sections sections.now) imported i.items initializers.old
         initializers.new) }
+    ensures refused { IfErr result (λ e. e.cause ≢ OutOfMemory → (contents : Contents)
+        → AreContents canonical.entry (told_sections sections.now) contents → ⊥) }
 {
     let mut items = read_import_section(alloc, sections, canonical)?;
     let imports = imports_of(&items, contents_of(sections, 2).offset())?;
@@ -272,6 +295,9 @@ fn read_uses<'a>(
         ≡ length items.now.items.functions.items) }
     ensures data_counted { IfOk result (λ u. IfSome (option_map (λ (n : SectionNumber). n.number) u.data_count)
         (λ n. n ≡ length u.segments.data_segments.items)) }
+    ensures refused { IfErr result (λ e. e.cause ≢ OutOfMemory → (contents : Contents)
+        → items.now.imports.functions + length contents.functions ≡ length items.now.items.functions.items
+        → AreContents canonical.entry (told_sections sections.now) contents → ⊥) }
 {
     let alloc = initializers.allocator();
     let exports = read_exports(alloc, sections, canonical)?;
@@ -301,6 +327,9 @@ fn read_contents<'a>(
         ≡ length m.declared.functions.items) }
     ensures read { IfOk result (λ m. HasContents (told_sections sections.now) (declarations_of m.declared)
         (bytes_of m.bodies.items) (map told m.expressions.items)) }
+    ensures refused { IfErr result (λ e. e.cause ≢ OutOfMemory → (d : Declarations) → (bodies : List (List ℕ))
+        → (expressions : List (Place × List ℕ))
+        → HasContents (told_sections sections.now) d bodies expressions → ⊥) }
 {
     let types = read_type_section(alloc, sections)?;
     let canonical = CanonicalTypes::new(&types.canonical);
@@ -343,12 +372,14 @@ fn read_contents<'a>(
 /// Reads a module, of which these are all the bytes. It refuses bytes that are no module's, a vector operator in a
 /// constant expression, but for a constant, and want of memory.
 ///
-/// What it declares is what the bytes say, and so are its bodies and its constant expressions.
+/// What it declares is what the bytes say, and so are its bodies and its constant expressions. Bytes that are refused for
+/// another cause than want of memory are no module's.
 pub fn read_module<'a>(alloc: Global, bytes: &'a [u8]) -> Result<Module<'a>, ReadError>
     ensures counted { IfOk result (λ m. m.declared.imports.functions + length m.bodies.items
         ≡ length m.declared.functions.items) }
     ensures read { IfOk result (λ m. IsModule bytes.now (declarations_of m.declared) (bytes_of m.bodies.items)
         (map told m.expressions.items)) }
+    ensures refused { IfErr result (λ e. e.cause ≢ OutOfMemory → IsNoModule bytes.now) }
 {
     let mut reader = BinaryReader::new(bytes);
     read_header(&mut reader)?;

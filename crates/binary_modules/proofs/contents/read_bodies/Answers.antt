@@ -1,8 +1,9 @@
--- No bodies, a body more, and all of them.
+-- No bodies, a body more, and all of them, or a body that can't be read.
 use Rattle.std.proofs.Common.{rules, arith, ap, sym, ◌∙◌, ◌≡◌, ◌-◌, ◌+◌, ◌∷◌, [], append-nil, Some}
 use Rattle.std.proofs.lemmas.List.{map-append}
+use Rattle.std.proofs.lemmas.Result.{err_from_is_err_and}
 use Rattle.binary_operators.specs.Values.{so_many}
-use Rattle.binary_operators.proofs.Items.{with_front, no_front, one_more, all_read}
+use Rattle.binary_operators.proofs.Items.{with_front, no_front, one_more, all_read, none_more}
 use Rattle.binary_modules.specs.ContentsRead.{bytes_of}
 use Rattle.binary_modules.specs.Parts.{sized}
 use Rattle.binary_modules.proofs.contents.read_bodies.Goals as goal
@@ -20,11 +21,11 @@ loop-preserved c =
     let front = c.loop.bodies.items in
     let rest = so_many sized (c.args.count - (c.loop.counter + 1)) c.read_part.new.reader.left in
     ap (λ l. with_front l rest) (ap bytes_of c.in_ok-push.ensures.added ∙ map-append (λ r. r.left) front (body ∷ []))
-    ∙ sym (one_more sized c.args.count c.loop.counter c.loop.reader.left (bytes_of front) body.left c.read_part.new.reader.left c.loop-test.true c.in_ok-body.ensures)
+    ∙ sym (one_more sized c.args.count c.loop.counter c.loop.reader.left (bytes_of front) body.left c.read_part.new.reader.left c.loop-test.true c.in_ok-body.ensures.read)
     ∙ c.loop.invariant
 
-pub returns : goal.returns
-returns c =
+pub returns-clause-read : goal.returns-clause-read
+returns-clause-read c =
     let count = c.args.count in
     let front = bytes_of c.loop.bodies.items in
     let done : c.loop.counter ≡ count = search rules in
@@ -32,3 +33,10 @@ returns c =
     ∙ ap (λ n. with_front front (so_many sized (count - n) c.loop.reader.left)) done
     ∙ all_read sized count c.loop.reader.left front
     ∙ ap (λ l. Some (l, c.loop.reader.left)) (append-nil front)
+
+pub returns-in_err-body-clause-refused : goal.returns-in_err-body-clause-refused
+returns-in_err-body-clause-refused c =
+    let p = err_from_is_err_and c.from_residual.result c.from_residual.ensures.1 in
+    rw (p.1, p.2) (λ short.
+    sym c.loop.invariant
+    ∙ none_more sized c.args.count c.loop.counter c.loop.reader.left (bytes_of c.loop.bodies.items) c.loop-test.true c.in_err-body.ensures.refused)

@@ -5,10 +5,10 @@ use Rattle.module_rules.specs.declared.segments.DataKind.TheVariants.{Active}
 use Rattle.binary_modules.specs.Segments.{active_data}
 use Rattle.binary_modules.proofs.data.read_active_data.Goals as goal
 
-pub returns : goal.returns
+pub returns-clause-read : goal.returns-clause-read
 unfolding active_data
-returns c =
-    let e = c.in_ok-read.ensures in (
+returns-clause-read c =
+    let e = c.in_ok-read.ensures.read in (
       record {
         kind = Active c.in_ok-memory_index.memory_index;
         initializers = record { place = λ i. DataOffset i; expression = e.0 } ∷ [];

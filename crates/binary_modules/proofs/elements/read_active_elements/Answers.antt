@@ -5,10 +5,10 @@ use Rattle.module_rules.specs.declared.segments.ElementKind.TheVariants.{Active}
 use Rattle.binary_modules.specs.Segments.{active_elements}
 use Rattle.binary_modules.proofs.elements.read_active_elements.Goals as goal
 
-pub returns : goal.returns
+pub returns-clause-read : goal.returns-clause-read
 unfolding active_elements
-returns c =
-    let e = c.in_ok-read.ensures in (
+returns-clause-read c =
+    let e = c.in_ok-read.ensures.read in (
       record {
         kind = Active c.in_ok-table_index.table_index;
         initializers = record { place = λ i. ElementOffset i; expression = e.0 } ∷ [];

@@ -5,8 +5,8 @@ use Rattle.binary_modules.specs.Segments.{nowhere_to}
 use Rattle.binary_modules.proofs.Added.{adds_none}
 use Rattle.binary_modules.proofs.elements.read_element_target.Goals as goal
 
-pub returns-then-mode-eq1 : goal.returns-then-mode-eq1
-returns-then-mode-eq1 c = (nowhere_to Passive, search rules, refl, adds_none c.args.initializers.now)
+pub returns-then-mode-eq1-clause-read : goal.returns-then-mode-eq1-clause-read
+returns-then-mode-eq1-clause-read c = (nowhere_to Passive, search rules, refl, adds_none c.args.initializers.now)
 
-pub returns-then-mode-eq3 : goal.returns-then-mode-eq3
-returns-then-mode-eq3 c = (nowhere_to Declared, search rules, refl, adds_none c.args.initializers.now)
+pub returns-then-mode-eq3-clause-read : goal.returns-then-mode-eq3-clause-read
+returns-then-mode-eq3-clause-read c = (nowhere_to Declared, search rules, refl, adds_none c.args.initializers.now)

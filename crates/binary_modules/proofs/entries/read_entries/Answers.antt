@@ -1,8 +1,9 @@
--- No items, and an item more.
+-- No items, and an item more, or none where one can't be read.
 use Rattle.std.proofs.Common.{arith, ap, subst, sym, ◌∙◌, ◌≡◌, ℕ, ◌+◌, ◌-◌, ◌∷◌, ◌++◌, [], List, length, map, append_assoc, append-nil}
 use Rattle.std.proofs.lemmas.List.{map-append, length_push}
+use Rattle.std.proofs.lemmas.Result.{err_from_is_err_and}
 use Rattle.binary_operators.specs.Values.{so_many}
-use Rattle.binary_operators.proofs.Items.{no_front, one_more}
+use Rattle.binary_operators.proofs.Items.{no_front, one_more, list_broken}
 use Rattle.module_rules.specs.declared.module.Place.{Place}
 use Rattle.binary_modules.specs.Initializers.{Expression}
 use Rattle.binary_modules.specs.Items.{Item, declared_items, placed}
@@ -47,3 +48,11 @@ loop-preserved g c =
       subst Q (placed_more first front item)
           (adds_both c.args.initializers.now c.loop.initializers c.read_entry.new.initializers (placed first front) (placed (first + length front) (item ∷ [])) i.4 (subst P i.3 e.3)),
     )
+
+pub returns-in_err-read_entry-clause-refused : goal.returns-in_err-read_entry-clause-refused
+returns-in_err-read_entry-clause-refused g c =
+    let p = err_from_is_err_and c.from_residual-in_err-read_entry.result c.from_residual-in_err-read_entry.ensures.1 in
+    let i = c.loop.invariant in
+    rw (p.1, p.2) (λ short.
+    list_broken (g.T.Entry.reading c.args.canonical) c.args.reader.now.left c.in_ok-count.count c.loop.counter c.read_var_u32.new.self.left c.loop.reader.left i.0 c.in_ok-count.ensures.read
+    i.1 c.loop-test.true (c.in_err-read_entry.ensures.refused short))

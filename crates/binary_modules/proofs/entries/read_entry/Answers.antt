@@ -7,7 +7,7 @@ use Rattle.binary_modules.proofs.entries.read_entry.Goals as goal
 
 pub returns-clause-read : goal.returns-clause-read
 returns-clause-read g c =
-    let e = c.in_ok-item.ensures in
+    let e = c.in_ok-item.ensures.read in
     let at : c.in-Ok.index ≡ length c.args.items.now.items = search rules in
     let P : ℕ → Type 0 = λ n. Adds c.args.initializers.now (placed n (e.0 ∷ [])) c.read.new.initializers in (
       e.0,

@@ -1,5 +1,6 @@
 -- Element segments, and data segments behind them; there are none before either.
 use Rattle.std.proofs.Common.{ap, subst, ◌∙◌, ◌++◌, map, ℕ, length}
+use Rattle.std.proofs.lemmas.Result.{err_from_is_err_and}
 use Rattle.module_rules.specs.declared.segments.Data.{Data}
 use Rattle.module_rules.specs.declared.segments.Element.{Element}
 use Rattle.binary_modules.specs.Items.{placed, declared_items}
@@ -7,10 +8,10 @@ use Rattle.binary_modules.specs.Kept.{Adds}
 use Rattle.binary_modules.proofs.Added.{adds_both}
 use Rattle.binary_modules.proofs.own.read_segments.Goals as goal
 
-pub returns : goal.returns
-returns c =
-    let elements = c.in_ok-read_section_of.ensures in
-    let segments = c.in_ok-read_section_of-2.ensures in
+pub returns-clause-read : goal.returns-clause-read
+returns-clause-read c =
+    let elements = c.in_ok-read_section_of.ensures.read in
+    let segments = c.in_ok-read_section_of-2.ensures.read in
     let no_elements = c.new-elements.ensures.items in
     let no_segments = c.new-data_segments.ensures.items in
     let P : ℕ → Type 0 = λ n. Adds c.args.initializers.now (placed n elements.0) c.read_section_of.new.initializers in
@@ -35,3 +36,13 @@ returns c =
           (placed 0 elements.0) (placed 0 segments.0) (subst P (ap length no_elements) elements.2)
           (subst Q (ap length no_segments) segments.2);
     }
+
+pub returns-in_err-read_section_of-clause-refused : goal.returns-in_err-read_section_of-clause-refused
+returns-in_err-read_section_of-clause-refused c =
+    let p = err_from_is_err_and c.from_residual.result c.from_residual.ensures.1 in
+    rw (p.1, p.2) (λ short contents h. c.in_err-read_section_of.ensures.refused short contents.elements h.elements)
+
+pub returns-in_err-read_section_of-2-clause-refused : goal.returns-in_err-read_section_of-2-clause-refused
+returns-in_err-read_section_of-2-clause-refused c =
+    let p = err_from_is_err_and c.from_residual-in_err-read_section_of-2.result c.from_residual-in_err-read_section_of-2.ensures.1 in
+    rw (p.1, p.2) (λ short contents h. c.in_err-read_section_of-2.ensures.refused short contents.data_segments h.data_segments)

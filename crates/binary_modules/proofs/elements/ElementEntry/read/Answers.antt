@@ -3,7 +3,7 @@ use Rattle.std.proofs.Common.{rules}
 use Rattle.binary_modules.specs.Segments.{element}
 use Rattle.binary_modules.proofs.elements.ElementEntry.read.Goals as goal
 
-pub returns : goal.returns
+pub returns-clause-read : goal.returns-clause-read
 unfolding element
-returns c =
-    let e = c.in_ok-segment.ensures in (e.0, search rules, e.2, e.3)
+returns-clause-read c =
+    let e = c.in_ok-segment.ensures.read in (e.0, search rules, e.2, e.3)

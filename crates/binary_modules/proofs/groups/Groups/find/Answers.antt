@@ -7,8 +7,8 @@ use Rattle.binary_modules.specs.Read.{IsUnlike, alone_at}
 use Rattle.binary_modules.proofs.Grouped.{both_ok, keeps_noted, keeps_other}
 use Rattle.binary_modules.proofs.groups.Groups.find.Goals as goal
 
-pub returns-in-Some : goal.returns-in-Some
-returns-in-Some c = λ mixed.
+pub returns-in-Some-clause-kept : goal.returns-in-Some-clause-kept
+returns-in-Some-clause-kept c = λ mixed.
     let types = c.args.types.now in
     let first = c.in-Some.first in
     let stands : get nat_cmp c.find_alone.new.self.numbers c.args.group.mixed ≡ Some (Some first) = search rules in
@@ -16,8 +16,8 @@ returns-in-Some c = λ mixed.
     keeps_noted c.args.self.now c.find_alone.new.self types c.args.group.types.items c.args.group.mixed c.args.own first
     c.in_ok-found.ensures.noted stands same
 
-pub returns-in-None : goal.returns-in-None
-returns-in-None c =
+pub returns-in-None-clause-kept : goal.returns-in-None-clause-kept
+returns-in-None-clause-kept c =
     let U : List SubType → Type 0 = λ group. IsUnlike c.find_alone.new.self c.args.types.now c.args.group.mixed group in
     let unlike = subst U c.as_slice.ensures.value (c.in_ok-found.ensures.other c.in-None.is) in
     both_ok c.find_other.result _ _ _

@@ -4,13 +4,15 @@ use Rattle.std.specs.BTreeMap.{get}
 use Rattle.std.specs.Ordering.{nat_cmp}
 use Rattle.std.proofs.lemmas.Result.{on_ok_weaker}
 use Rattle.validate_types.specs.declared.types.SubType.{SubType}
+use Rattle.binary_operators.specs.declared.types.GroupNames.TheVariants.{Indices}
 use Rattle.binary_modules.specs.Mixed.{mix_types}
 use Rattle.binary_modules.specs.Read.{IsMixed, IsUnlike, Keeps, Notes, alone_at}
 use Rattle.binary_modules.proofs.Grouped.{as_many, both_ok, has_one, keeps_alone, keeps_other, read_once, read_twice, stood_before}
+use Rattle.binary_modules.proofs.TypesUnique.{if_err}
 use Rattle.binary_modules.proofs.groups.TypeSection.declare_alone.Goals as goal
 
-pub returns-in_ok-push-in-Some : goal.returns-in_ok-push-in-Some
-returns-in_ok-push-in-Some c =
+pub returns-in_ok-push-in-Some-clause-read : goal.returns-in_ok-push-in-Some-clause-read
+returns-in_ok-push-in-Some-clause-read c =
     let section = c.args.self.now in
     let types = section.types.items in
     let ty = c.args.ty in
@@ -31,8 +33,8 @@ returns-in_ok-push-in-Some c =
     c.in_ok-push-in-Some.ensures.added added (λ i. section.groups))
     c.push-in-Some.ensures.added
 
-pub returns-in_ok-first-in-None : goal.returns-in_ok-first-in-None
-returns-in_ok-first-in-None c =
+pub returns-in_ok-first-in-None-clause-read : goal.returns-in_ok-first-in-None-clause-read
+returns-in_ok-first-in-None-clause-read c =
     let section = c.args.self.now in
     let types = section.types.items in
     let ty = c.args.ty in
@@ -61,3 +63,13 @@ returns-in_ok-first-in-None c =
     read_twice before section kept h 1 c.args.again.now.left rest c.declare.new.reader.left c.declare.new.self after (ty ∷ []) read.0 own first is
     (has_one section.canonical.items _ c.args.again.now.left ty rest reads) (subst K rolled keeps) read.1 read.2 canonical c.declare.ensures.groups)
     c.declare.ensures.types c.declare.ensures.canonical
+
+pub returns-in_ok-first-in-None-clause-refused : goal.returns-in_ok-first-in-None-clause-refused
+returns-in_ok-first-in-None-clause-refused c =
+    let ty = c.args.ty in
+    let canonical = c.args.self.now.canonical.items in
+    let bytes = c.args.again.now.left in
+    let first = c.in_ok-first-in-None.first in
+    if_err c.declare.result _ _
+    (λ e none short rest reads. none short (ty ∷ []) rest (has_one canonical (Indices first) bytes ty rest reads))
+    c.declare.ensures.refused

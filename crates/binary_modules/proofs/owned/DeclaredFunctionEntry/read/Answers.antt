@@ -4,9 +4,9 @@ use Rattle.binary_modules.specs.Items.{alone, alone_item, own_function}
 use Rattle.binary_modules.proofs.Added.{adds_none}
 use Rattle.binary_modules.proofs.owned.DeclaredFunctionEntry.read.Goals as goal
 
-pub returns : goal.returns
+pub returns-clause-read : goal.returns-clause-read
 unfolding own_function
-returns c = (
+returns-clause-read c = (
   alone (record c.in_ok-function.function { offset = 0 }),
   ap alone_item c.in_ok-function.ensures.read,
   refl,

@@ -4,9 +4,9 @@ use Rattle.binary_modules.specs.Items.{alone, alone_item, memory}
 use Rattle.binary_modules.proofs.Added.{adds_none}
 use Rattle.binary_modules.proofs.owned.DeclaredMemoryEntry.read.Goals as goal
 
-pub returns : goal.returns
+pub returns-clause-read : goal.returns-clause-read
 unfolding memory
-returns c = (
+returns-clause-read c = (
   alone (record c.in_ok-memory.memory { offset = 0 }),
   ap alone_item c.in_ok-memory.ensures.read,
   refl,

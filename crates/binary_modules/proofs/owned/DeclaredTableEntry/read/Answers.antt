@@ -4,14 +4,14 @@ use Rattle.binary_modules.specs.Items.{alone, table}
 use Rattle.binary_modules.proofs.Added.{adds_none}
 use Rattle.binary_modules.proofs.owned.DeclaredTableEntry.read.Goals as goal
 
-pub returns-then-branch : goal.returns-then-branch
+pub returns-then-branch-clause-read : goal.returns-then-branch-clause-read
 unfolding table
-returns-then-branch c =
-    let e = c.in_ok-initialized.ensures in (e.0, search rules, e.2, e.3)
+returns-then-branch-clause-read c =
+    let e = c.in_ok-initialized.ensures.read in (e.0, search rules, e.2, e.3)
 
-pub returns : goal.returns
+pub returns-clause-read : goal.returns-clause-read
 unfolding table
-returns c = (
+returns-clause-read c = (
   alone (record c.in_ok-table.table { offset = 0 }),
   search rules,
   refl,

@@ -9,4 +9,5 @@ pub mod Row
 pub mod Sections
 pub mod Turned
 pub mod Unplaced
+pub mod Unread
 pub mod Wherever

@@ -7,10 +7,12 @@ pub mod FaultyModule
 pub mod FirstBytes
 pub mod Items
 pub mod Loaded
+pub mod Outcomes
 pub mod Refusals
 pub mod Safe
 pub mod Turns
 pub mod Unbodied
 pub mod Uncovered
 pub mod UncoveredModule
+pub mod Unloaded
 pub mod Verdicts

@@ -1,9 +1,9 @@
 //! Why a module isn't loaded.
 
-ghost use Rattle.std.specs.Prelude.{◌≡◌, ◌≢◌, ℕ, drop};
+ghost use Rattle.std.specs.Prelude.{◌≡◌, ◌≢◌, ◌⊎◌, ℕ, drop};
 ghost use Rattle.binary_operators.specs.Vectors.{BeginVector};
 ghost use Rattle.module_check.specs.declared.load_refusal.LoadRefusal.TheVariants.{Judged, TooLarge};
-ghost use Rattle.module_check.specs.declared.verdict.Verdict.TheVariants.{Accepted, Refused, NotCovered};
+ghost use Rattle.module_check.specs.declared.verdict.Verdict.TheVariants.{Accepted, Refused, Malformed, NotCovered};
 ghost use Rattle.module_rules.specs.declared.refusals.ModuleRefusal.TheVariants.{Invalid, TooLarge as PastLimit};
 ghost use Rattle.validate_types.specs.declared.error.Error.{Error};
 
@@ -27,6 +27,7 @@ impl LoadRefusal {
         ensures invalid { (e : Error) → result ≡ Judged (Refused e) → refusal ≡ Invalid e }
         ensures too_large { (e : Error) → result ≡ TooLarge e → refusal ≡ PastLimit e }
         ensures covered { (offset : ℕ) → result ≢ Judged (NotCovered offset) }
+        ensures readable { (e : Error) → result ≢ Judged (Malformed e) }
     {
         match refusal {
             ModuleRefusal::Invalid(error) => LoadRefusal::Judged(Verdict::Refused(error)),
@@ -42,6 +43,10 @@ impl LoadRefusal {
             → self ≡ Judged (NotCovered offset) }
         ensures uncovered { (offset : ℕ) → result ≡ Judged (NotCovered offset)
             → BeginVector (drop offset bytes.now) }
+        ensures malformed { (e : Error) → result ≡ Judged (Malformed e) → (self ≡ Judged (Malformed e))
+            ⊎ ((offset : ℕ) × (self ≡ Judged (NotCovered offset))) }
+        ensures invalid { (e : Error) → result ≡ Judged (Refused e) → self ≡ Judged (Refused e) }
+        ensures too_large { (e : Error) → result ≡ TooLarge e → self ≡ TooLarge e }
     {
         match self {
             LoadRefusal::Judged(verdict) => LoadRefusal::Judged(verdict.within(bytes)),

@@ -1,17 +1,20 @@
 //! A module whose bodies are to be checked.
 
-ghost use Rattle.std.specs.Prelude.{◌≡◌, ◌≢◌, ◌⊎◌, ◌≤◌, ◌<◌, ◌+◌, ◌^◌, ℕ, true, false, drop, length, map, Some, None, IfSome, OnSome, IfOk, IfErr};
+ghost use Rattle.std.specs.Prelude.{◌≡◌, ◌≢◌, ◌⊎◌, ◌≤◌, ◌<◌, ◌+◌, ◌-◌, ◌^◌, ℕ, true, false, drop, length, map, slice_get, Some, None, IfSome, OnSome, IfOk, IfErr};
 ghost use Rattle.binary_modules.specs.ContentsRead.{bytes_of as bytes_left};
 ghost use Rattle.binary_modules.specs.Kept.{told};
-ghost use Rattle.binary_modules.specs.Modules.{IsModule};
+ghost use Rattle.binary_modules.specs.Modules.{IsModule, IsNoModule};
+ghost use Rattle.binary_operators.specs.Vectors.{BeginVector};
+ghost use Rattle.binary_operators.specs.declared.error.Cause.TheVariants.{OutOfMemory as NoMemory};
 ghost use Rattle.module_rules.specs.Declarations.{declarations_of};
 ghost use Rattle.module_rules.specs.Lookup.{lookup_lists};
-ghost use Rattle.module_rules.specs.Validity.{IsValidModule, is_valid_module};
+ghost use Rattle.module_rules.specs.Validity.{IsValidModule};
 ghost use Rattle.module_rules.specs.Within.{IsWithin};
 ghost use Rattle.validate_resources.specs.Kept.{declared_lists};
 ghost use Rattle.validate_resources.specs.Lists.{context_of, module_of};
 ghost use Rattle.module_check.specs.declared.load_refusal.LoadRefusal.TheVariants.{Judged, TooLarge};
-ghost use Rattle.module_check.specs.declared.verdict.Verdict.TheVariants.{Accepted};
+ghost use Rattle.module_check.specs.declared.verdict.Verdict.TheVariants.{Accepted, NotCovered, OutOfMemory};
+ghost use Rattle.validate_types.specs.Features.{has, simd};
 
 use crate::body::{BodyContext, check_body};
 use crate::buffers::BodyBuffers;
@@ -27,7 +30,7 @@ use module_rules::{
 };
 use std::alloc::Global;
 use validate_resources::{ModuleLists, WasmModuleResources};
-use validate_types::Error;
+use validate_types::{Error, WasmFeatures};
 use validate_visit::BodyKind;
 
 /// A module that was read, with its bytes. What it declares is valid, and within the limits of this implementation.
@@ -49,7 +52,6 @@ pub struct LoadedModule<'a> {
 }
 
 impl<'a> LoadedModule<'a> {
-    ghost use Rattle.binary_operators.specs.Vectors.{BeginVector};
     ghost use Rattle.binary_operators.specs.declared.types.CanonicalTypes.{CanonicalTypes};
     ghost use Rattle.module_check.specs.Constant.{may_stand};
     ghost use Rattle.module_check.specs.Loaded.{declarations, features_of, bytes_of, declared};
@@ -64,10 +66,10 @@ impl<'a> LoadedModule<'a> {
     ghost use Rattle.module_check.specs.Faults.{IsMalformedCode, IsRefusedCode};
     ghost use Rattle.module_check.specs.FaultyModule.{IsMalformedFunction, IsRefusedFunction};
     ghost use Rattle.module_check.specs.FaultyModule.{IsMalformedExpression, IsRefusedExpression};
-    ghost use Rattle.module_check.specs.declared.verdict.Verdict.TheVariants.{Refused, Malformed, NotCovered, OutOfMemory};
+    ghost use Rattle.module_check.specs.Unloaded.{AreUnloaded, DeclareInvalid};
+    ghost use Rattle.module_check.specs.declared.verdict.Verdict.TheVariants.{Refused, Malformed};
     ghost use Rattle.validate_operators.specs.Begin.{CannotStart};
     ghost use Rattle.module_rules.specs.Features.{operator_features};
-    ghost use Rattle.validate_types.specs.Features.{has, simd};
     ghost use Rattle.validate_types.specs.declared.error.Error.{Error};
 
     /// Reads a module, of which these are all the bytes, and checks that what it declares is valid under these
@@ -87,13 +89,18 @@ impl<'a> LoadedModule<'a> {
             → has (operator_features features) simd ≡ true) }
         ensures uncovered { IfErr result (λ refusal. (offset : ℕ) → refusal ≡ Judged (NotCovered offset)
             → BeginVector (drop offset bytes.now)) }
+        ensures unread { IfErr result (λ refusal. (offset : ℕ) → refusal ≡ Judged (NotCovered offset)
+            → IsNoModule bytes.now) }
+        ensures malformed { IfErr result (λ refusal. (e : Error) → refusal ≡ Judged (Malformed e)
+            → IsNoModule bytes.now) }
+        ensures invalid { IfErr result (λ refusal. (e : Error) → refusal ≡ Judged (Refused e)
+            → AreUnloaded features bytes.now) }
         ensures too_large { IfErr result (λ refusal. (e : Error) → refusal ≡ TooLarge e → AreTooLarge bytes.now) }
     {
         match read_module(alloc, bytes) {
             Ok(module) => LoadedModule::of_module(alloc, bytes, features, module),
             Err(error) => {
-                let verdict = Verdict::of_read_error_in(alloc, error);
-                let verdict = verdict.under(&features.operator_features()).within(bytes);
+                let verdict = unread(alloc, error, bytes, &features.operator_features());
                 Err(LoadRefusal::Judged(verdict))
             }
         }
@@ -115,9 +122,10 @@ impl<'a> LoadedModule<'a> {
         ensures declared { IfOk result (λ m. declarations m ≡ declarations_of module.entry.declared) }
         ensures refused { IfErr result (λ refusal. refusal ≢ Judged Accepted) }
         ensures invalid { IfErr result (λ refusal. (e : Error) → refusal ≡ Judged (Refused e)
-            → is_valid_module features (declarations_of module.entry.declared) ≡ false) }
+            → DeclareInvalid features bytes.now) }
         ensures too_large { IfErr result (λ refusal. (e : Error) → refusal ≡ TooLarge e → AreTooLarge bytes.now) }
         ensures covered { IfErr result (λ refusal. (offset : ℕ) → refusal ≢ Judged (NotCovered offset)) }
+        ensures readable { IfErr result (λ refusal. (e : Error) → refusal ≢ Judged (Malformed e)) }
     {
         let Module {
             declared,
@@ -207,8 +215,7 @@ impl<'a> LoadedModule<'a> {
         ensures missing { result ≡ None → self.now.declared.imports.functions ≤ function
             → body_at self.now function ≡ None }
     {
-        let body = function.checked_sub(self.declared.imports.functions)?;
-        self.bodies.get(body as usize)
+        body_in(&self.bodies, self.declared.imports.functions, function)
     }
 
     /// The names of its functions, as far as they can be read. It fails only if memory ran out.
@@ -380,6 +387,31 @@ impl<'a> LoadedModule<'a> {
             buffers,
         )
     }
+}
+
+/// The verdict on bytes that aren't read as a module's, under these proposals.
+fn unread(alloc: Global, error: ReadError, bytes: &[u8], features: &WasmFeatures) -> Verdict
+    ensures refused { result ≢ Accepted }
+    ensures memory { result ≢ OutOfMemory → error.cause ≢ NoMemory }
+    ensures proposal { (offset : ℕ) → result ≡ NotCovered offset → has features.now simd ≡ true }
+    ensures uncovered { (offset : ℕ) → result ≡ NotCovered offset → BeginVector (drop offset bytes.now) }
+{
+    let verdict = Verdict::of_read_error_in(alloc, error);
+    verdict.under(features).within(bytes)
+}
+
+/// Of these bodies that of the function at this index, where so many functions are imported: those have none.
+fn body_in<'m, 'a>(
+    bodies: &'m [BinaryReader<'a>],
+    imported: u32,
+    function: u32,
+) -> Option<&'m BinaryReader<'a>>
+    ensures is_body { IfSome result (λ body. slice_get bodies.now (function - imported) ≡ Some body.now) }
+    ensures is_own { OnSome result (imported ≤ function) }
+    ensures missing { result ≡ None → imported ≤ function → slice_get bodies.now (function - imported) ≡ None }
+{
+    let body = function.checked_sub(imported)?;
+    bodies.get(body as usize)
 }
 
 /// The refusal of a function that the module hasn't, or has no body for.

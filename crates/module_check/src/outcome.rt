@@ -2,7 +2,7 @@
 
 ghost use Rattle.std.specs.Prelude.{◌≡◌, ◌⊎◌, min, nat_lt};
 ghost use Rattle.module_check.specs.Verdicts.{outcome_of, status, weight};
-ghost use Rattle.module_check.specs.declared.outcome.Outcome.TheVariants.{Valid, NotCovered};
+ghost use Rattle.module_check.specs.declared.outcome.Outcome.TheVariants.{Valid};
 
 use crate::verdict::Verdict;
 
@@ -106,7 +106,7 @@ impl Outcome {
     /// The graver of two: it is valid only if both are, and not covered only if one isn't.
     pub fn or(self, other: Outcome) -> Outcome
         ensures valid { result ≡ Valid → (self ≡ Valid) × (other ≡ Valid) }
-        ensures uncovered { result ≡ NotCovered → (self ≡ NotCovered) ⊎ (other ≡ NotCovered) }
+        ensures either { (result ≡ self) ⊎ (result ≡ other) }
     {
         if other.is_graver(self) { other } else { self }
     }

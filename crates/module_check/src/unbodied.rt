@@ -8,7 +8,7 @@ ghost use Rattle.module_rules.specs.Within.{IsWithin};
 ghost use Rattle.validate_resources.specs.Kept.{declared_lists};
 ghost use Rattle.validate_resources.specs.Lists.{module_of};
 ghost use Rattle.module_check.specs.EmptySections.{number_bytes, list_section, empty_segments, sections_behind};
-ghost use Rattle.module_check.specs.declared.load_refusal.LoadRefusal.TheVariants.{Judged};
+ghost use Rattle.module_check.specs.declared.load_refusal.LoadRefusal.TheVariants.{Judged, TooLarge};
 ghost use Rattle.module_check.specs.declared.verdict.Verdict.TheVariants.{Accepted};
 
 use crate::load_refusal::LoadRefusal;
@@ -159,7 +159,11 @@ impl LoadedDeclarations {
     ghost use Rattle.binary_operators.specs.Vectors.{BeginVector};
     ghost use Rattle.module_check.specs.Unbodied.{BeginsModule, DeclaresInModule, declared_by, features_of, context_in};
     ghost use Rattle.module_check.specs.Unbodied.{AreTypesIn};
-    ghost use Rattle.module_check.specs.declared.verdict.Verdict.TheVariants.{NotCovered};
+    ghost use Rattle.binary_modules.specs.Modules.{IsNoModule};
+    ghost use Rattle.module_check.specs.Loaded.{AreTooLarge};
+    ghost use Rattle.module_check.specs.Unloaded.{AreUnloaded, Completed};
+    ghost use Rattle.module_check.specs.declared.verdict.Verdict.TheVariants.{Refused, Malformed, NotCovered};
+    ghost use Rattle.validate_types.specs.declared.error.Error.{Error};
     ghost use Rattle.module_rules.specs.Features.{operator_features};
     ghost use Rattle.validate_resources.specs.Lists.{context_of};
     ghost use Rattle.validate_types.specs.Features.{has, simd};
@@ -179,6 +183,12 @@ impl LoadedDeclarations {
             → has (operator_features features) simd ≡ true) }
         ensures uncovered { IfErr result (λ refusal. (offset : ℕ) → refusal ≡ Judged (NotCovered offset)
             → BeginVector (drop offset bytes.now)) }
+        ensures malformed { IfErr result (λ refusal. (e : Error) → refusal ≡ Judged (Malformed e)
+            → Completed IsNoModule bytes.now) }
+        ensures invalid { IfErr result (λ refusal. (e : Error) → refusal ≡ Judged (Refused e)
+            → Completed (AreUnloaded features) bytes.now) }
+        ensures too_large { IfErr result (λ refusal. (e : Error) → refusal ≡ TooLarge e
+            → Completed AreTooLarge bytes.now) }
     {
         let Ok(whole) = with_sections(alloc, bytes, counts_of(bytes)) else {
             return Err(LoadRefusal::Judged(Verdict::OutOfMemory));
@@ -201,6 +211,13 @@ impl LoadedDeclarations {
         ensures refused { IfErr result (λ refusal. refusal ≢ Judged Accepted) }
         ensures proposal { IfErr result (λ refusal. (offset : ℕ) → refusal ≡ Judged (NotCovered offset)
             → has (operator_features features) simd ≡ true) }
+        ensures unread { IfErr result (λ refusal. (offset : ℕ) → refusal ≡ Judged (NotCovered offset)
+            → IsNoModule whole.now) }
+        ensures malformed { IfErr result (λ refusal. (e : Error) → refusal ≡ Judged (Malformed e)
+            → IsNoModule whole.now) }
+        ensures invalid { IfErr result (λ refusal. (e : Error) → refusal ≡ Judged (Refused e)
+            → AreUnloaded features whole.now) }
+        ensures too_large { IfErr result (λ refusal. (e : Error) → refusal ≡ TooLarge e → AreTooLarge whole.now) }
     {
         match LoadedModule::new(alloc, whole, features) {
             Ok(module) => Ok(module.into_declarations()),

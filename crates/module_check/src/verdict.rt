@@ -1,6 +1,6 @@
 //! What the check of a body or a constant expression comes to.
 
-ghost use Rattle.std.specs.Prelude.{◌≡◌, ◌≢◌, ◌↔◌, ℕ, true, false, drop, IsOk, IfErr};
+ghost use Rattle.std.specs.Prelude.{◌≡◌, ◌≢◌, ◌↔◌, ◌⊎◌, ℕ, true, false, drop, IsOk, IfErr};
 ghost use Rattle.binary_operators.specs.Vectors.{BeginVector};
 ghost use Rattle.binary_operators.specs.declared.error.Cause.TheVariants.{Malformed as OfFault, OutOfMemory as NoMemory, VectorOperator};
 ghost use Rattle.binary_operators.specs.declared.error.Fault.{Fault};
@@ -252,11 +252,14 @@ impl Verdict {
         ensures memory { (result ≡ OutOfMemory) ↔ (self ≡ OutOfMemory) }
         ensures same { (offset : ℕ) → result ≡ NotCovered offset → self ≡ NotCovered offset }
         ensures uncovered { (offset : ℕ) → result ≡ NotCovered offset → BeginVector (drop offset bytes.now) }
+        ensures malformed { (e : Error) → result ≡ Malformed e
+            → (self ≡ Malformed e) ⊎ ((offset : ℕ) × (self ≡ NotCovered offset)) }
+        ensures invalid { (e : Error) → result ≡ Refused e → self ≡ Refused e }
     {
         match self {
             Verdict::NotCovered(offset) if !has_vector_at(bytes, offset) => {
-                let fault = Fault::UnexpectedEnd;
-                Verdict::of_fault(fault, Error::new(fault.text(), bytes.len() as u64))
+                let text = Fault::UnexpectedEnd.text();
+                Verdict::Malformed(Error::new(text, bytes.len() as u64))
             }
             verdict => verdict,
         }

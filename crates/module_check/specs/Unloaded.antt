@@ -1,0 +1,48 @@
+-- What bytes are that aren't loaded (the crate's own).
+use Rattle.std.specs.Prelude.{◌≡◌, ◌⊎◌, ℕ, false, List, ◌++◌}
+use Rattle.binary_modules.specs.Modules.{IsModule, IsNoModule}
+use Rattle.module_rules.specs.Declarations.{Declarations}
+use Rattle.module_rules.specs.Validity.{is_valid_module}
+use Rattle.module_rules.specs.declared.features.ModuleFeatures.{ModuleFeatures}
+use Rattle.module_rules.specs.declared.module.Place.{Place}
+use Rattle.module_check.specs.EmptySections.{sections_behind}
+use Rattle.module_check.specs.FaultyModule.{HasInvalid, HasMalformed}
+use Rattle.module_check.specs.Loaded.{bytes_of, features_of, AreTooLarge}
+use Rattle.module_check.specs.declared.loaded.LoadedModule.{LoadedModule}
+
+-- These bytes are those of a module, and what it declares isn't valid under these proposals.
+pub record DeclareInvalid (features : ModuleFeatures) (bytes : List ℕ) : Type 0 where
+  pub declared : Declarations
+  pub bodies : List (List ℕ)
+  pub expressions : List (Place × List ℕ)
+  pub is_module : ∥ IsModule bytes declared bodies expressions ∥₁
+  pub is_invalid : is_valid_module features declared ≡ false
+
+-- they are no module's, or what they declare isn't valid
+abbrev pub AreUnloaded : ModuleFeatures → List ℕ → Type 0
+AreUnloaded features bytes = IsNoModule bytes ⊎ DeclareInvalid features bytes
+
+-- With empty bodies and data segments behind them, as many as are tried, they are such.
+abbrev pub Completed : (List ℕ → Type 0) → List ℕ → Type 0
+Completed Are bytes = (functions : ℕ) × (segments : ℕ) × Are (bytes ++ sections_behind functions segments)
+
+-- A module was read of these bytes, under these proposals, and something in it is malformed, or invalid.
+pub record AreMalformedModule (features : ModuleFeatures) (bytes : List ℕ) : Type 0 where
+  pub loaded : LoadedModule
+  pub of_bytes : bytes_of loaded ≡ bytes
+  pub under : features_of loaded ≡ features
+  pub has_malformed : HasMalformed loaded
+
+pub record AreInvalidModule (features : ModuleFeatures) (bytes : List ℕ) : Type 0 where
+  pub loaded : LoadedModule
+  pub of_bytes : bytes_of loaded ≡ bytes
+  pub under : features_of loaded ≡ features
+  pub has_invalid : HasInvalid loaded
+
+-- these bytes are malformed: they are no module's, or something in the module that they are is malformed
+abbrev pub AreMalformed : ModuleFeatures → List ℕ → Type 0
+AreMalformed features bytes = IsNoModule bytes ⊎ AreMalformedModule features bytes
+
+-- they are invalid: what they declare isn't valid, or something in the module that they are isn't
+abbrev pub AreInvalid : ModuleFeatures → List ℕ → Type 0
+AreInvalid features bytes = AreUnloaded features bytes ⊎ AreInvalidModule features bytes

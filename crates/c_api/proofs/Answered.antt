@@ -56,6 +56,19 @@ not_one_before s z one = omega (arith, z, one)
 pub not_two_before : (s : ℕ) → s ≡ 0 → s ≡ 2 → ⊥
 not_two_before s z two = omega (arith, z, two)
 
+-- what was kept, or found no memory, doesn't tell of a refusal
+pub kept_not_one : (s : ℕ) → (s ≡ 0) ⊎ (s ≡ 3) → s ≡ 1 → ⊥
+kept_not_one s k one = elim k [ inl a ↦ omega (arith, a, one) | inr b ↦ omega (arith, b, one) ]
+
+pub kept_not_two : (s : ℕ) → (s ≡ 0) ⊎ (s ≡ 3) → s ≡ 2 → ⊥
+kept_not_two s k two = elim k [ inl a ↦ omega (arith, a, two) | inr b ↦ omega (arith, b, two) ]
+
+pub kept_not_four : (s : ℕ) → (s ≡ 0) ⊎ (s ≡ 3) → s ≡ 4 → ⊥
+kept_not_four s k four = elim k [ inl a ↦ omega (arith, a, four) | inr b ↦ omega (arith, b, four) ]
+
+pub kept_not_seven : (s : ℕ) → (s ≡ 0) ⊎ (s ≡ 3) → s ≡ 7 → ⊥
+kept_not_seven s k seven = elim k [ inl a ↦ omega (arith, a, seven) | inr b ↦ omega (arith, b, seven) ]
+
 pub no_more_than_four : (s t : ℕ) → s ≡ 0 → (s ≤ 4 → t ≤ 4) → t ≤ 4
 no_more_than_four s t z known = known (omega (arith, z))
 

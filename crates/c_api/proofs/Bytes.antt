@@ -4,10 +4,13 @@ use Rattle.std.specs.Prelude.{Result, Ok, Err, IsOk, IfOk, IfErr, MatchResult}
 use Rattle.binary_operators.specs.Vectors.{BeginVector}
 use Rattle.module_check.specs.Loaded.{bytes_of, features_of, AreTooLarge, IsValid}
 use Rattle.module_check.specs.declared.loaded.LoadedModule.{LoadedModule}
+use Rattle.binary_modules.specs.Modules.{IsNoModule}
+use Rattle.module_check.specs.FaultyModule.{HasInvalid, HasMalformed}
 use Rattle.module_check.specs.UncoveredModule.{AreUncovered, HasUncovered, HasVectorIn}
+use Rattle.module_check.specs.Unloaded.{AreInvalid, AreMalformed, AreUnloaded}
 use Rattle.module_check.specs.declared.load_refusal.LoadRefusal.{LoadRefusal}
 use Rattle.module_check.specs.declared.load_refusal.LoadRefusal.TheVariants.{Judged, TooLarge}
-use Rattle.module_check.specs.declared.verdict.Verdict.TheVariants.{NotCovered}
+use Rattle.module_check.specs.declared.verdict.Verdict.TheVariants.{Refused, Malformed, NotCovered}
 use Rattle.module_rules.specs.Features.{of_bits, operator_features}
 use Rattle.module_rules.specs.declared.features.ModuleFeatures.{ModuleFeatures}
 use Rattle.module_check.specs.Unbodied.{BeginsModule, declared_by, features_of as features_alone}
@@ -46,3 +49,16 @@ vector_in bytes bits f (Err v) p b s = λ offset e. record {
 pub read_too_large : {T : Type 0} → (bytes : List ℕ) (r : Result T LoadRefusal) → IfErr r (λ v. (e : Error) → v ≡ TooLarge e → AreTooLarge bytes) → MatchResult r (λ m. ⊥) (λ v. (e : Error) × (v ≡ TooLarge e)) → AreTooLarge bytes
 read_too_large bytes (Ok m) l h = absurd h
 read_too_large bytes (Err v) l h = l h.0 h.1
+
+-- the same under the proposals that the bits stand for
+pub under_bits : {T : Type 0} → (bits : ℕ) (f : ModuleFeatures) (r : Result T LoadRefusal) (P : ModuleFeatures → LoadRefusal → Type 0) → IfErr r (P f) → f ≡ of_bits bits → IfErr r (P (of_bits bits))
+under_bits bits f r P u s = subst (λ g. IfErr r (P g)) s u
+
+-- what is malformed of a module that was read, or why it wasn't; and what is invalid
+pub read_malformed : (bytes : List ℕ) (bits : ℕ) (r : Result LoadedModule LoadRefusal) → IfOk r (IsLoadedFrom bytes bits) → IfErr r (λ v. (e : Error) → v ≡ Judged (Malformed e) → IsNoModule bytes) → MatchResult r HasMalformed (λ v. (e : Error) × (v ≡ Judged (Malformed e))) → AreMalformed (of_bits bits) bytes
+read_malformed bytes bits (Ok m) l u h = inr (record { loaded = m; of_bytes = l.has_bytes; under = l.has_features; has_malformed = h })
+read_malformed bytes bits (Err v) l u h = inl (u h.0 h.1)
+
+pub read_invalid : (bytes : List ℕ) (bits : ℕ) (r : Result LoadedModule LoadRefusal) → IfOk r (IsLoadedFrom bytes bits) → IfErr r (λ v. (e : Error) → v ≡ Judged (Refused e) → AreUnloaded (of_bits bits) bytes) → MatchResult r HasInvalid (λ v. (e : Error) × (v ≡ Judged (Refused e))) → AreInvalid (of_bits bits) bytes
+read_invalid bytes bits (Ok m) l u h = inr (record { loaded = m; of_bytes = l.has_bytes; under = l.has_features; has_invalid = h })
+read_invalid bytes bits (Err v) l u h = inl (u h.0 h.1)

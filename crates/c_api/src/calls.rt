@@ -1,14 +1,16 @@
 //! The calls of C on a module.
 
 ghost use Rattle.std.specs.Prelude.{◌≡◌, ◌≢◌, ◌⊎◌, ◌≤◌, ◌<◌, ◌-◌, ◌^◌, ◌↔◌, ℕ, length, min, true, false, None, Some, IsOk, IfOk, IfErr, IfSome, MatchResult};
+ghost use Rattle.binary_modules.specs.Modules.{IsNoModule};
 ghost use Rattle.module_check.specs.FaultyModule.{HasInvalid, HasMalformed, IsMalformedFunction, IsRefusedFunction};
 ghost use Rattle.module_check.specs.Items.{item_count};
 ghost use Rattle.module_check.specs.Loaded.{AreTooLarge, IsAcceptedFunction, IsAcceptedModule, IsSafeFunction, IsValid};
 ghost use Rattle.module_check.specs.UncoveredModule.{AreUncovered, HasUncovered, HasVectorIn, IsUncoveredFunction};
+ghost use Rattle.module_check.specs.Unloaded.{AreInvalid, AreMalformed, AreUnloaded, Completed};
 ghost use Rattle.module_check.specs.Verdicts.{IsConsistent, Reports, SaysNo, total};
 ghost use Rattle.module_check.specs.declared.load_refusal.LoadRefusal.TheVariants.{Judged, TooLarge};
 ghost use Rattle.module_check.specs.declared.verdict.Item.TheVariants.{Function};
-ghost use Rattle.module_check.specs.declared.verdict.Verdict.TheVariants.{Accepted, NotCovered};
+ghost use Rattle.module_check.specs.declared.verdict.Verdict.TheVariants.{Accepted, Refused, Malformed, NotCovered};
 ghost use Rattle.module_rules.specs.Features.{of_bits};
 ghost use Rattle.validate_types.specs.declared.error.Error.{Error};
 ghost use Rattle.c_api.specs.Answers.{BodyAnswer, ModuleAnswer, NextAnswer};
@@ -46,6 +48,10 @@ fn read<'a>(alloc: Global, bytes: &'a [u8], features: u32) -> Result<LoadedModul
     ensures refused { IfErr result (λ refusal. refusal ≢ Judged Accepted) }
     ensures uncovered { IfErr result (λ refusal. (offset : ℕ) → refusal ≡ Judged (NotCovered offset)
         → HasVectorIn (of_bits features) bytes.now) }
+    ensures malformed { IfErr result (λ refusal. (e : Error) → refusal ≡ Judged (Malformed e)
+        → IsNoModule bytes.now) }
+    ensures invalid { IfErr result (λ refusal. (e : Error) → refusal ≡ Judged (Refused e)
+        → AreUnloaded (of_bits features) bytes.now) }
     ensures too_large { IfErr result (λ refusal. (e : Error) → refusal ≡ TooLarge e → AreTooLarge bytes.now) }
 {
     LoadedModule::new(alloc, bytes, ModuleFeatures::of_bits(features))
@@ -59,6 +65,10 @@ fn note_refusal(refusal: &LoadRefusal, text: &mut [u8], out: &mut ModuleVerdict)
     ensures refused { out.new.status ≢ 0 }
     ensures uncovered { out.new.status ≡ 4 → (out.old.status ≡ 4)
         ⊎ ((offset : ℕ) × (refusal.now ≡ Judged (NotCovered offset))) }
+    ensures malformed { out.old.status ≡ 0 → out.new.status ≡ 2
+        → (e : Error) × (refusal.now ≡ Judged (Malformed e)) }
+    ensures invalid { out.old.status ≡ 0 → out.new.status ≡ 1
+        → (e : Error) × (refusal.now ≡ Judged (Refused e)) }
     ensures too_large { out.old.status ≡ 0 → out.new.status ≡ 7 → (e : Error) × (refusal.now ≡ TooLarge e) }
     ensures known { out.old.status ≤ 4 → (out.new.status ≤ 4) ⊎ (out.new.status ≡ 7) }
 {
@@ -84,6 +94,10 @@ fn check_read(
     ensures valid { out.new.status ≡ 0 → IfOk read.now IsValid }
     ensures uncovered { out.new.status ≡ 4 → (out.old.status ≡ 4)
         ⊎ MatchResult read.now HasUncovered (λ refusal. (offset : ℕ) × (refusal ≡ Judged (NotCovered offset))) }
+    ensures malformed { out.old.status ≡ 0 → out.new.status ≡ 2
+        → MatchResult read.now HasMalformed (λ refusal. (e : Error) × (refusal ≡ Judged (Malformed e))) }
+    ensures invalid { out.old.status ≡ 0 → out.new.status ≡ 1
+        → MatchResult read.now HasInvalid (λ refusal. (e : Error) × (refusal ≡ Judged (Refused e))) }
     ensures too_large { out.old.status ≡ 0 → out.new.status ≡ 7
         → MatchResult read.now (λ m. ⊥) (λ refusal. (e : Error) × (refusal ≡ TooLarge e)) }
     ensures known { out.old.status ≤ 4 → (out.new.status ≤ 4) ⊎ (out.new.status ≡ 7) }
@@ -96,9 +110,10 @@ fn check_read(
 
 /// Checks a module, of which these are all the bytes, under these proposals: what it declares, each body and each
 /// constant expression. It writes the totals to `out`, and to `text` the text of the first finding of the gravest kind,
-/// cut to the room there. It answers the status: where that is 0, the module is valid; where it is 4, one of these has a
-/// vector operator behind accepted ones, or an expression has one at which it can't be read; where it is 7, what it declares
-/// is past a limit.
+/// cut to the room there. It answers the status: where that is 0, the module is valid; where it is 2, the bytes are no
+/// module's, or one of these is malformed; where it is 1, what it declares isn't valid, or one of these is refused; where it
+/// is 4, one of these has a vector operator behind accepted ones, or an expression has one at which it can't be read; where
+/// it is 7, what it declares is past a limit.
 pub fn validate(
     alloc: Global,
     bytes: &[u8],
@@ -110,6 +125,8 @@ pub fn validate(
     ensures consistent { IsConsistent (length text.new) out.new }
     ensures valid { result ≡ 0 → IsValidModuleOf bytes.now features }
     ensures uncovered { result ≡ 4 → AreUncovered (of_bits features) bytes.now }
+    ensures malformed { result ≡ 2 → AreMalformed (of_bits features) bytes.now }
+    ensures invalid { result ≡ 1 → AreInvalid (of_bits features) bytes.now }
     ensures too_large { result ≡ 7 → AreTooLarge bytes.now }
     ensures known { (result ≤ 4) ⊎ (result ≡ 7) }
 {
@@ -155,18 +172,22 @@ pub fn load(
     ensures loaded { result ≡ 0 → OnModule handle.new.held (IsLoadedFrom bytes.now features) }
     ensures unchanged { result ≢ 0 → handle.new.held ≡ handle.old.held }
     ensures uncovered { result ≡ 4 → HasVectorIn (of_bits features) bytes.now }
+    ensures malformed { result ≡ 2 → IsNoModule bytes.now }
+    ensures invalid { result ≡ 1 → AreUnloaded (of_bits features) bytes.now }
+    ensures too_large { result ≡ 7 → AreTooLarge bytes.now }
     ensures known { (result ≤ 4) ⊎ (result ≡ 7) }
 {
     *out = ModuleVerdict::new();
     match read(alloc, bytes, features) {
         Ok(module) => {
-            if !keep_new(alloc, HeldModule::Whole(module), handle) {
-                out.report(OUT_OF_MEMORY, None, 0, "out of memory", text);
-            }
+            keep_read(alloc, HeldModule::Whole(module), handle, text, out);
+            status_of(out)
         }
-        Err(refusal) => note_refusal(&refusal, text, out),
+        Err(refusal) => {
+            note_refusal(&refusal, text, out);
+            status_of(out)
+        }
     }
-    status_of(out)
 }
 
 /// Reads what a module declares that has no bodies yet, of which these are all the bytes, and checks that it is valid
@@ -186,18 +207,22 @@ pub fn declare(
         OnDeclared h (AreDeclaredFrom bytes.now features)) }
     ensures unchanged { result ≢ 0 → handle.new.held ≡ handle.old.held }
     ensures uncovered { result ≡ 4 → HasVectorIn (of_bits features) bytes.now }
+    ensures malformed { result ≡ 2 → Completed IsNoModule bytes.now }
+    ensures invalid { result ≡ 1 → Completed (AreUnloaded (of_bits features)) bytes.now }
+    ensures too_large { result ≡ 7 → Completed AreTooLarge bytes.now }
     ensures known { (result ≤ 4) ⊎ (result ≡ 7) }
 {
     *out = ModuleVerdict::new();
     match read_declarations(alloc, bytes, features) {
         Ok(declarations) => {
-            if !keep_new(alloc, HeldModule::Declared(declarations), handle) {
-                out.report(OUT_OF_MEMORY, None, 0, "out of memory", text);
-            }
+            keep_read(alloc, HeldModule::Declared(declarations), handle, text, out);
+            status_of(out)
         }
-        Err(refusal) => note_refusal(&refusal, text, out),
+        Err(refusal) => {
+            note_refusal(&refusal, text, out);
+            status_of(out)
+        }
     }
-    status_of(out)
 }
 
 /// Reads what a module declares that has no bodies yet, of which these are all the bytes.
@@ -210,6 +235,12 @@ fn read_declarations(
     ensures refused { IfErr result (λ refusal. refusal ≢ Judged Accepted) }
     ensures uncovered { IfErr result (λ refusal. (offset : ℕ) → refusal ≡ Judged (NotCovered offset)
         → HasVectorIn (of_bits features) bytes.now) }
+    ensures malformed { IfErr result (λ refusal. (e : Error) → refusal ≡ Judged (Malformed e)
+        → Completed IsNoModule bytes.now) }
+    ensures invalid { IfErr result (λ refusal. (e : Error) → refusal ≡ Judged (Refused e)
+        → Completed (AreUnloaded (of_bits features)) bytes.now) }
+    ensures too_large { IfErr result (λ refusal. (e : Error) → refusal ≡ TooLarge e
+        → Completed AreTooLarge bytes.now) }
 {
     LoadedDeclarations::new(alloc, bytes, ModuleFeatures::of_bits(features))
 }
@@ -222,6 +253,26 @@ fn keep_new(alloc: Global, module: HeldModule, handle: &mut Handle) -> bool
     match Arc::new(alloc, module) {
         Ok(held) => keep(alloc, Kept::Module(SharedModule { held }), handle),
         Err(_) => false,
+    }
+}
+
+/// Puts a module that was read into a handle, or notes that there is no memory for that: then the handle stays as it was.
+fn keep_read(
+    alloc: Global,
+    module: HeldModule,
+    handle: &mut Handle,
+    text: &mut [u8],
+    out: &mut ModuleVerdict,
+)
+    requires consistent { IsConsistent (length text.old) out.old }
+    requires first { out.old.status ≡ 0 }
+    ensures consistent { IsConsistent (length text.new) out.new }
+    ensures kept { out.new.status ≡ 0 → OnHeld handle.new.held (λ h. h ≡ «module») }
+    ensures unchanged { out.new.status ≢ 0 → handle.new.held ≡ handle.old.held }
+    ensures known { (out.new.status ≡ 0) ⊎ (out.new.status ≡ 3) }
+{
+    if !keep_new(alloc, module, handle) {
+        out.report(OUT_OF_MEMORY, None, 0, "out of memory", text);
     }
 }
 

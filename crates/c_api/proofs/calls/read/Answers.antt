@@ -1,5 +1,10 @@
 -- The proposals are those that the bits stand for.
-use Rattle.c_api.proofs.Bytes.{loaded_from, vector_in}
+use Rattle.module_check.specs.Unloaded.{AreUnloaded}
+use Rattle.module_check.specs.declared.load_refusal.LoadRefusal.TheVariants.{Judged}
+use Rattle.module_check.specs.declared.verdict.Verdict.TheVariants.{Refused}
+use Rattle.validate_types.specs.declared.error.Error.{Error}
+use Rattle.std.proofs.Common.{◌≡◌}
+use Rattle.c_api.proofs.Bytes.{loaded_from, vector_in, under_bits}
 use Rattle.c_api.proofs.calls.read.Goals as goal
 
 pub returns-clause-loaded : goal.returns-clause-loaded
@@ -9,3 +14,10 @@ returns-clause-loaded c =
 pub returns-clause-uncovered : goal.returns-clause-uncovered
 returns-clause-uncovered c =
     vector_in c.args.bytes.now c.args.features c.of_bits.result c.new.result c.new.ensures.proposal c.new.ensures.uncovered c.of_bits.ensures
+
+pub returns-clause-malformed : goal.returns-clause-malformed
+returns-clause-malformed c = c.new.ensures.malformed
+
+pub returns-clause-invalid : goal.returns-clause-invalid
+returns-clause-invalid c =
+    under_bits c.args.features c.of_bits.result c.new.result (λ f v. (e : Error) → v ≡ Judged (Refused e) → AreUnloaded f c.args.bytes.now) c.new.ensures.invalid c.of_bits.ensures

@@ -2,9 +2,11 @@
 
 ghost use Rattle.std.specs.Prelude.{◌≡◌, ◌≢◌, ◌⊎◌, IfOk, OnOk};
 ghost use Rattle.module_check.specs.Items.{AreSafeBelow, IsSafeAt, item_count};
-ghost use Rattle.module_check.specs.Loaded.{AreValidModule, IsValid};
-ghost use Rattle.module_check.specs.UncoveredModule.{HasUncovered, IsUncoveredAt};
-ghost use Rattle.module_check.specs.declared.outcome.Outcome.TheVariants.{Valid, NotCovered};
+ghost use Rattle.module_check.specs.Loaded.{AreTooLarge, AreValidModule, IsValid};
+ghost use Rattle.module_check.specs.Outcomes.{HasFound, IsFoundAt};
+ghost use Rattle.module_check.specs.UncoveredModule.{AreUncovered};
+ghost use Rattle.module_check.specs.Unloaded.{AreInvalid};
+ghost use Rattle.module_check.specs.declared.outcome.Outcome.TheVariants.{Valid, Invalid, Malformed, NotCovered, TooLarge};
 
 use crate::explain::{Asked, refusal_of, shown_of};
 use crate::lines::{Finding, Lines};
@@ -193,8 +195,8 @@ impl<'m> ModuleCheck<'_, 'm, '_> {
     ) -> io::Result<()>
         ensures valid { OnOk result (progress.new.tally.outcome ≡ Valid → (progress.old.tally.outcome ≡ Valid)
             × IsSafeAt self.now.module.now place) }
-        ensures uncovered { OnOk result (progress.new.tally.outcome ≡ NotCovered
-            → (progress.old.tally.outcome ≡ NotCovered) ⊎ IsUncoveredAt self.now.module.now place) }
+        ensures found { OnOk result ((progress.new.tally.outcome ≡ progress.old.tally.outcome)
+            ⊎ IsFoundAt self.now.module.now place progress.new.tally.outcome) }
     {
         let checked = check_item(self.module, place, &mut progress.buffers);
         progress.tally.count(&checked.verdict);
@@ -214,8 +216,8 @@ impl<'m> ModuleCheck<'_, 'm, '_> {
     ) -> io::Result<()>
         ensures valid { OnOk result (progress.new.tally.outcome ≡ Valid
             → AreSafeBelow self.now.module.now (item_count self.now.module.now)) }
-        ensures uncovered { OnOk result (progress.new.tally.outcome ≡ NotCovered
-            → (progress.old.tally.outcome ≡ NotCovered) ⊎ HasUncovered self.now.module.now) }
+        ensures found { OnOk result ((progress.new.tally.outcome ≡ progress.old.tally.outcome)
+            ⊎ HasFound self.now.module.now progress.new.tally.outcome) }
     {
         let all = item_count(self.module);
         let bodies = self.module.body_count();
@@ -229,7 +231,7 @@ impl<'m> ModuleCheck<'_, 'm, '_> {
 
     /// Says that no function has the name or the index that is asked for, if so, and answers what that comes to.
     fn traced_outcome(&self, rt: &HostRuntime, has_traced: bool) -> io::Result<Outcome>
-        ensures covered { IfOk result (λ outcome. outcome ≢ NotCovered) }
+        ensures { IfOk result (λ outcome. (outcome ≡ Valid) ⊎ (outcome ≡ Malformed)) }
     {
         match self.options.traced {
             Some(word) if !has_traced => {
@@ -274,8 +276,8 @@ fn check_named<W: Write>(
     progress: &mut Progress,
 ) -> io::Result<Outcome>
     ensures valid { IfOk result (λ outcome. outcome ≡ Valid → IsValid check.now.module.now) }
-    ensures uncovered { IfOk result (λ outcome. outcome ≡ NotCovered
-        → (progress.old.tally.outcome ≡ NotCovered) ⊎ HasUncovered check.now.module.now) }
+    ensures found { IfOk result (λ outcome. outcome ≢ Malformed → (outcome ≡ progress.old.tally.outcome)
+        ⊎ HasFound check.now.module.now outcome) }
 {
     check.check_items(rt, out, progress)?;
     write_tally(
@@ -295,8 +297,7 @@ fn check_anew<W: Write>(
     check: &ModuleCheck<'_, '_, '_>,
 ) -> io::Result<Outcome>
     ensures valid { IfOk result (λ outcome. outcome ≡ Valid → IsValid check.now.module.now) }
-    ensures uncovered { IfOk result (λ outcome. outcome ≡ NotCovered
-        → HasUncovered check.now.module.now) }
+    ensures found { IfOk result (λ outcome. outcome ≢ Malformed → HasFound check.now.module.now outcome) }
 {
     let mut progress = Progress {
         buffers: BodyBuffers::new(rt.alloc()),
@@ -314,7 +315,7 @@ fn check_module<W: Write>(
     module: &LoadedModule<'_>,
 ) -> io::Result<Outcome>
     ensures valid { IfOk result (λ outcome. outcome ≡ Valid → IsValid module.now) }
-    ensures uncovered { IfOk result (λ outcome. outcome ≡ NotCovered → HasUncovered module.now) }
+    ensures found { IfOk result (λ outcome. outcome ≢ Malformed → HasFound module.now outcome) }
 {
     match module.names(rt.alloc()) {
         Ok(names) => {
@@ -332,7 +333,8 @@ fn check_module<W: Write>(
     }
 }
 
-/// Checks the module of these bytes, and writes and answers what it comes to: that it is valid, only if it is.
+/// Checks the module of these bytes, and writes and answers what it comes to: that it is valid, invalid, not covered or too
+/// large, only if it is. It answers *malformed* also where no function has the name or the index that is asked for.
 pub fn check_bytes<W: Write>(
     rt: &HostRuntime,
     out: &mut W,
@@ -340,6 +342,10 @@ pub fn check_bytes<W: Write>(
     bytes: &[u8],
 ) -> io::Result<Outcome>
     ensures valid { IfOk result (λ outcome. outcome ≡ Valid → AreValidModule options.entry.features bytes.now) }
+    ensures invalid { IfOk result (λ outcome. outcome ≡ Invalid → AreInvalid options.entry.features bytes.now) }
+    ensures uncovered { IfOk result (λ outcome. outcome ≡ NotCovered
+        → AreUncovered options.entry.features bytes.now) }
+    ensures too_large { IfOk result (λ outcome. outcome ≡ TooLarge → AreTooLarge bytes.now) }
 {
     match LoadedModule::new(rt.alloc(), bytes, options.features) {
         Ok(module) => check_module(rt, out, options, &module),

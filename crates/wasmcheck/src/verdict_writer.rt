@@ -1,8 +1,9 @@
 //! What a module comes to as it is checked, and what is written of it.
 
-ghost use Rattle.std.specs.Prelude.{◌≡◌, ◌⊎◌, ℕ, IfOk};
-ghost use Rattle.module_check.specs.declared.outcome.Outcome.TheVariants.{Valid, NotCovered, TooLarge};
-ghost use Rattle.module_check.specs.declared.verdict.Verdict.TheVariants.{Accepted, NotCovered as Uncovered};
+ghost use Rattle.std.specs.Prelude.{◌≡◌, ◌⊎◌, IfOk};
+ghost use Rattle.module_check.specs.declared.outcome.Outcome.TheVariants.{Valid, TooLarge};
+ghost use Rattle.module_check.specs.declared.verdict.Verdict.TheVariants.{Accepted};
+ghost use Rattle.module_check.specs.Verdicts.{outcome_of};
 
 use crate::lines::{Counts, Finding, Lines, Summary};
 use crate::options::Detail;
@@ -41,8 +42,7 @@ impl Tally {
     /// Counts one more.
     pub fn count(&mut self, verdict: &Verdict)
         ensures valid { self.new.outcome ≡ Valid → (self.old.outcome ≡ Valid) × (verdict.now ≡ Accepted) }
-        ensures uncovered { self.new.outcome ≡ NotCovered → (self.old.outcome ≡ NotCovered)
-            ⊎ ((offset : ℕ) × (verdict.now ≡ Uncovered offset)) }
+        ensures either { (self.new.outcome ≡ self.old.outcome) ⊎ (self.new.outcome ≡ outcome_of verdict.now) }
     {
         self.outcome = self.outcome.or(Outcome::of(verdict));
         self.counts.add(verdict);
@@ -132,8 +132,7 @@ pub fn write_module<W: Write>(
     verdict: &Verdict,
 ) -> io::Result<Outcome>
     ensures valid { IfOk result (λ outcome. outcome ≡ Valid → verdict.now ≡ Accepted) }
-    ensures uncovered { IfOk result (λ outcome. outcome ≡ NotCovered
-        → (offset : ℕ) × (verdict.now ≡ Uncovered offset)) }
+    ensures verdict { IfOk result (λ outcome. outcome ≡ outcome_of verdict.now) }
 {
     let outcome = Outcome::of(verdict);
     write_refusal(out, lines, detail, outcome, verdict)?;

@@ -1,7 +1,8 @@
--- The module that was read of the bytes is the one that is valid.
-use Rattle.std.proofs.Common.{◌≡◌, IfOk, Result, Ok, Err}
+-- The module that was read of the bytes is the one that is valid, or isn't.
+use Rattle.std.proofs.Common.{◌≡◌, ◌∙◌, IfOk, Result, Ok, Err}
 use Rattle.module_check.specs.declared.outcome.Outcome.{Outcome}
 use Rattle.module_check.specs.declared.outcome.Outcome.TheVariants.{Valid}
+use Rattle.wasmcheck.proofs.Found.{is_invalid, is_uncovered, never_too_large, refused_invalid, refused_uncovered}
 use Rattle.wasmcheck.proofs.module.check_bytes.Goals as goal
 
 where_valid : {E : Type 0} → (r : Result Outcome E) (P Q : Type 0) → (P → Q) → IfOk r (λ o. o ≡ Valid → P) → IfOk r (λ o. o ≡ Valid → Q)
@@ -9,11 +10,37 @@ where_valid (Ok o) P Q so found = λ is. so (found is)
 where_valid (Err e) P Q so found = found
 
 pub returns-in-Ok : goal.returns-in-Ok
-returns-in-Ok g c = record {
-  valid = where_valid c.check_module.result _ _ (λ is. record {
-    loaded = c.in-Ok.module;
-    of_bytes = c.in-Ok.ensures.bytes;
-    under = c.in-Ok.ensures.features;
-    is_valid = is;
-  }) c.check_module.ensures.valid;
-}
+returns-in-Ok g c =
+    let m = c.in-Ok.module in
+    let features = c.args.options.features in
+    let x = c.in-Ok.ensures in
+    let found = c.check_module.ensures.found in
+    record {
+      valid = where_valid c.check_module.result _ _ (λ is. record {
+        loaded = m;
+        of_bytes = x.bytes;
+        under = x.features;
+        is_valid = is;
+      }) c.check_module.ensures.valid;
+      invalid = is_invalid m features c.args.bytes.now c.check_module.result x.bytes x.features found;
+      uncovered = is_uncovered m features c.args.bytes.now c.check_module.result x.bytes x.features found;
+      too_large = never_too_large m c.args.bytes.now c.check_module.result found;
+    }
+
+pub returns-in_ok-refused-in-Err-Judged-clause-invalid : goal.returns-in_ok-refused-in-Err-Judged-clause-invalid
+returns-in_ok-refused-in-Err-Judged-clause-invalid g c =
+    let x = c.in-Err-Judged in
+    let told = c.in_ok-refused-in-Err-Judged in
+    refused_invalid x.verdict told.refused c.args.options.features c.args.bytes.now
+    (λ e is. x.ensures.invalid e (x.field-0-is ∙ is)) told.ensures.verdict
+
+pub returns-in_ok-refused-in-Err-Judged-clause-uncovered : goal.returns-in_ok-refused-in-Err-Judged-clause-uncovered
+returns-in_ok-refused-in-Err-Judged-clause-uncovered g c =
+    let x = c.in-Err-Judged in
+    let told = c.in_ok-refused-in-Err-Judged in
+    refused_uncovered x.verdict told.refused c.args.options.features c.args.bytes.now
+    (λ offset is. record {
+      offset = offset;
+      begins = x.ensures.uncovered offset (x.field-0-is ∙ is);
+      is_on = x.ensures.proposal offset (x.field-0-is ∙ is);
+    }) told.ensures.verdict

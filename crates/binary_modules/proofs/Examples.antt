@@ -1,12 +1,12 @@
 -- Computed examples of the binary format of types, against bytes that are put together by hand.
-use Rattle.std.proofs.Common.{◌≡◌, refl, inl, ℕ, Bool, true, false, List, [], ◌∷◌, Option, Some, None}
+use Rattle.std.proofs.Common.{◌≡◌, refl, ℕ, Bool, true, false, List, [], ◌∷◌, Option, Some, None}
 use Rattle.binary_operators.specs.Types.{heap_type, ref_type, reference_type, value_type}
+use Rattle.std.specs.Option.{option_map}
 use Rattle.binary_operators.specs.Unplaced.{nowhere}
 use Rattle.binary_operators.specs.Values.{list_of}
 use Rattle.binary_operators.specs.declared.types.CanonicalTypes.{CanonicalTypes}
 use Rattle.binary_operators.specs.declared.types.GroupNames.{GroupNames}
 use Rattle.binary_operators.specs.declared.types.GroupNames.TheVariants.{Places, Indices}
-use Rattle.module_rules.specs.declared.items.RecGroup.{RecGroup}
 use Rattle.validate_types.specs.Refs.{nullable_reference}
 use Rattle.validate_types.specs.declared.heap.HeapType.TheVariants.{Concrete}
 use Rattle.validate_types.specs.declared.heap.UnpackedIndex.{UnpackedIndex}
@@ -18,7 +18,7 @@ use Rattle.validate_types.specs.declared.types.StorageType.TheVariants.{I8, I16,
 use Rattle.validate_types.specs.declared.types.SubType.{SubType}
 use Rattle.validate_types.specs.declared.types.ValType.TheVariants.{I32, I64, Ref}
 use Rattle.binary_modules.specs.SubTypes.{type_index, storage_type, field_type, func_type, struct_type, array_type, cont_type, composite_inner_type, marked_index, composite_type, supertype, with_supertype, below_supertype, sub_type}
-use Rattle.binary_modules.specs.Groups.{Group, rec_group, AreTypes}
+use Rattle.binary_modules.specs.Groups.{Group, rec_group, group, groups as type_groups, canonical_of}
 
 -- where these types stand for those before, and its own are named so
 abbrev in_group : GroupNames → List ℕ → CanonicalTypes
@@ -93,40 +93,16 @@ groups : (rec_group (in_group Places (0 ∷ 1 ∷ 2 ∷ 1 ∷ [])) (0x4e ∷ 0x0
 unfolding rec_group sub_type with_supertype composite_type marked_index composite_inner_type struct_type list_of field_type storage_type value_type ref_type reference_type heap_type
 groups = (refl, refl, refl)
 
-abbrev one_type : RecGroup
-one_type = record { count = 1; explicit = false; offset = 0 }
-
 -- the type that refers to itself, as index 0 and as index 1 say it
 abbrev first_node : Group
 first_node = record { rolled = node (Id (record { index = 0 })) ∷ []; types = node (Module 0) ∷ []; first = 0; explicit = false }
 
 -- A struct refers to itself, and so does a second one: these are one type, and index 0 stands for both.
-equal_types : AreTypes (0x02 ∷ 0x5f ∷ 0x01 ∷ 0x63 ∷ 0x00 ∷ 0x00 ∷ 0x5f ∷ 0x01 ∷ 0x63 ∷ 0x01 ∷ 0x00 ∷ []) (node (Module 0) ∷ node (Module 0) ∷ []) (0 ∷ 0 ∷ []) (one_type ∷ one_type ∷ []) []
-unfolding rec_group sub_type with_supertype composite_type marked_index composite_inner_type struct_type list_of field_type storage_type value_type ref_type reference_type heap_type
-equal_types = record {
-  groups = first_node ∷ first_node ∷ [];
-  behind = _;
-  has_count = refl;
-  are_groups = (
-    _,
-    record {
-      is_rolled = record { types = in_group Places []; are_before = refl; are_own = refl; is_read = refl };
-      end = _;
-      is_declared = record { types = in_group (Indices 0) []; are_before = refl; are_own = refl; is_read = refl };
-      is_canonical = refl;
-    },
-    (
-      _,
-      record {
-        is_rolled = record { types = in_group Places (0 ∷ []); are_before = refl; are_own = refl; is_read = refl };
-        end = _;
-        is_declared = record { types = in_group (Indices 0) (0 ∷ []); are_before = refl; are_own = refl; is_read = refl };
-        is_canonical = inl (refl, refl);
-      },
-      refl,
-    ),
-  );
-  are_types = refl;
-  are_canonical = refl;
-  are_written = refl;
-}
+equal_types : type_groups (0x02 ∷ 0x5f ∷ 0x01 ∷ 0x63 ∷ 0x00 ∷ 0x00 ∷ 0x5f ∷ 0x01 ∷ 0x63 ∷ 0x01 ∷ 0x00 ∷ []) ≡ Some (first_node ∷ first_node ∷ [], [])
+unfolding type_groups group rec_group sub_type with_supertype composite_type marked_index composite_inner_type struct_type list_of field_type storage_type value_type ref_type reference_type heap_type
+equal_types = refl
+
+-- A second one that refers to the first is another type, and stands for itself.
+another_type : option_map (λ (r : List Group × List ℕ). canonical_of r.0) (type_groups (0x02 ∷ 0x5f ∷ 0x01 ∷ 0x63 ∷ 0x00 ∷ 0x00 ∷ 0x5f ∷ 0x01 ∷ 0x63 ∷ 0x00 ∷ 0x00 ∷ [])) ≡ Some (0 ∷ 1 ∷ [])
+unfolding type_groups group rec_group sub_type with_supertype composite_type marked_index composite_inner_type struct_type list_of field_type storage_type value_type ref_type reference_type heap_type
+another_type = refl

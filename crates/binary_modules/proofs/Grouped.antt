@@ -28,7 +28,8 @@ use Rattle.validate_types.specs.declared.types.SubType.{SubType}
 use Rattle.validate_types.proofs.Equal.{types_exact, types_tied}
 use Rattle.binary_modules.specs.Parts.{marked}
 use Rattle.binary_modules.specs.SubTypes.{sub_type}
-use Rattle.binary_modules.specs.Groups.{Group, HasGroup, IsGroup, AreGroups, StandsFor, types_of, canonical_of, rec_group, group_count}
+use Rattle.binary_modules.specs.Groups.{Group, types_of, canonical_of, rec_group, group_count}
+use Rattle.binary_modules.specs.GroupsRead.{HasGroup, IsGroup, AreGroups, StandsFor}
 use Rattle.binary_modules.specs.Mixed.{mix_types}
 use Rattle.binary_modules.specs.Read.{HasTypes, HasRead, HasReadTypes, ReadsAnyhow, IsFound, IsMixed, IsOther, IsUnlike, StandsAlone, Notes, Keeps, Knows, rolled_cmp, alone_at}
 use Rattle.binary_modules.specs.contracts.mixed.RolledGroupOrd.TheImpl.Laws.{matches_eq-law as rolled_ties}

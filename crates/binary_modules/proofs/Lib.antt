@@ -1,5 +1,7 @@
 pub mod Added
 pub mod Anyhow
+pub mod Decoded
+pub mod DecodedBytes
 pub mod ExampleItems
 pub mod ExampleModule
 pub mod Examples

@@ -20,10 +20,11 @@ use Rattle.validate_types.specs.declared.refs.RefType.{RefType}
 use Rattle.validate_types.specs.declared.types.ValType.{ValType}
 use Rattle.validate_visit.specs.declared.op.Op.{Op}
 use Rattle.binary_modules.specs.Initializers.{piece, of_operator, depth_behind, or_end, named_functions, expression}
-use Rattle.binary_modules.specs.Items.{function, own_function, tag_type, tag, global_type, global, alone_item, initialized_table, default_table, table, imported, import_behind, import_item}
+use Rattle.binary_modules.specs.Items.{function, own_function, tag_type, tag, global_type, global, alone_item, initialized_table, table, imported, import_behind, import_item}
 use Rattle.binary_modules.specs.Limits.{table_type}
-use Rattle.binary_modules.specs.Modules.{Contents, AreContents}
-use Rattle.binary_modules.specs.Parts.{name, marked, sized}
+use Rattle.binary_modules.specs.Modules.{Contents}
+use Rattle.binary_modules.specs.ModulesRead.{AreContents}
+use Rattle.binary_modules.specs.Parts.{name, marked}
 use Rattle.binary_modules.specs.Sections.{Section, contents_of}
 use Rattle.binary_modules.specs.Segments.{index_if, active_elements, element_target, with_type, expression_items, type_and_expressions, element_items, element_behind, element, active_data, data_target, data_behind, data_segment}
 use Rattle.binary_modules.specs.declared.imports.Import.TheVariants.{Table as ImportedTable, Global as ImportedGlobal}

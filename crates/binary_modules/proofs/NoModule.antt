@@ -1,27 +1,24 @@
 -- Bytes that can't be read are no module's: what was read of them so far is what any module with these bytes has.
-use Rattle.std.proofs.Common.{arith, ap, subst, sym, refl, ◌∙◌, ◌≡◌, ℕ, ◌+◌, ◌-◌, ◌^◌, min, List, [], ◌∷◌, length, drop, Option, Some}
+use Rattle.std.proofs.Common.{arith, ap, subst, sym, ◌∙◌, ◌≡◌, ℕ, ◌+◌, List, [], ◌∷◌, length, drop, Option, Some}
 use Rattle.std.specs.Prelude.{IfSome}
 use Rattle.std.proofs.lemmas.List.{length-map}
 use Rattle.binary_operators.specs.Unread.{Unread}
 use Rattle.binary_operators.specs.Values.{list_of}
 use Rattle.binary_operators.specs.declared.types.CanonicalTypes.{CanonicalTypes}
-use Rattle.binary_operators.specs.declared.types.GroupNames.TheVariants.{Indices}
-use Rattle.module_rules.specs.Declarations.{Declarations}
 use Rattle.module_rules.specs.declared.items.DeclaredFunction.{DeclaredFunction}
 use Rattle.module_rules.specs.declared.items.RecGroup.{RecGroup}
-use Rattle.module_rules.specs.declared.module.Place.{Place}
 use Rattle.module_rules.specs.declared.segments.Data.{Data}
 use Rattle.validate_types.specs.declared.types.SubType.{SubType}
 use Rattle.binary_modules.specs.ContentsRead.{IsList, bytes_of}
-use Rattle.binary_modules.specs.Groups.{AreTypes}
+use Rattle.binary_modules.specs.GroupsRead.{AreTypes}
 use Rattle.binary_modules.specs.Items.{Item, own_function}
-use Rattle.binary_modules.specs.Modules.{Contents, AreContents, AreAllTypes, HasContents}
+use Rattle.binary_modules.specs.Modules.{Contents}
+use Rattle.binary_modules.specs.ModulesRead.{AreContents}
 use Rattle.binary_modules.specs.Parts.{sized}
-use Rattle.binary_modules.specs.Sections.{Section, section, AreSectionsIn, contents_of, section_contents, IsNumber}
+use Rattle.binary_modules.specs.Sections.{Section, contents_of, section_contents}
+use Rattle.binary_modules.specs.SectionsRead.{IsNumber}
 use Rattle.binary_modules.specs.Segments.{data_segment}
-use Rattle.binary_modules.proofs.Lying.{contents_wherever}
-use Rattle.binary_modules.proofs.Once.{both_same, none_or_some, number_same}
-use Rattle.binary_modules.proofs.SectionsLess.{no_section}
+use Rattle.binary_modules.proofs.Once.{both_same, number_same}
 use Rattle.binary_modules.proofs.TypesUnique.{types_unique}
 use Rattle.binary_modules.proofs.WholeParts.{list_length, counted_by}
 
@@ -30,26 +27,10 @@ use Rattle.binary_modules.proofs.WholeParts.{list_length, counted_by}
 pub header_same : (a b bytes : List ℕ) → bytes ≡ 0x00 ∷ 0x61 ∷ 0x73 ∷ 0x6d ∷ 0x01 ∷ 0x00 ∷ 0x00 ∷ 0x00 ∷ a → bytes ≡ 0x00 ∷ 0x61 ∷ 0x73 ∷ 0x6d ∷ 0x01 ∷ 0x00 ∷ 0x00 ∷ 0x00 ∷ b → a ≡ b
 header_same a b bytes h k = sym (ap (drop 8) h) ∙ ap (drop 8) k
 
-pub sections_same : (s t : List Section) (bytes : List ℕ) → AreSectionsIn bytes s [] → AreSectionsIn bytes t [] → s ≡ t
-sections_same [] [] bytes h k = refl
-sections_same [] (y ∷ t) bytes h k = absurd (none_or_some (section bytes) (y, k.0) (ap section h ∙ no_section) k.1)
-sections_same (x ∷ s) [] bytes h k = absurd (none_or_some (section bytes) (x, h.0) (ap section k ∙ no_section) h.1)
-sections_same (x ∷ s) (y ∷ t) bytes h k =
-    let e = both_same (section bytes) x y h.0 k.0 h.1 k.1 in
-    ap (λ z. z ∷ s) e.0 ∙ ap (λ l. y ∷ l) (sections_same s t k.0 (subst (λ b. AreSectionsIn b s []) e.1 h.2) k.2)
-
 -- ---- types
 
 pub all_of_types : (bytes : List ℕ) (s t : List SubType) (c d : List ℕ) (v w : List RecGroup) (rest : List ℕ) → AreTypes bytes s c v rest → AreTypes bytes t d w [] → rest ≡ []
 all_of_types bytes s t c d v w rest h k = (types_unique bytes s t c d v w rest [] h k).2
-
-pub by_types : (sections : List Section) (t : List SubType) (canonical : List ℕ) (w : List RecGroup) (types : CanonicalTypes) (d : Declarations) (bodies : List (List ℕ)) (expressions : List (Place × List ℕ)) → AreTypes (contents_of 1 sections) t canonical w [] → AreAllTypes canonical types → (h : HasContents sections d bodies expressions) → AreContents types sections h.contents
-by_types sections t canonical w types d bodies expressions read all h =
-    let same : d.canonical ≡ canonical =
-    (types_unique (contents_of 1 sections) d.types t d.canonical canonical d.groups w [] [] h.are_types read).1 in
-    contents_wherever h.types types sections h.contents (h.are_all_types.are_named ∙ same ∙ sym all.are_named)
-    (h.are_all_types.are_behind ∙ ap (λ l. Indices (min (length l) (2 ^ 32 - 1))) same ∙ sym all.are_behind)
-    h.are_contents
 
 -- ---- counts
 

@@ -2,7 +2,7 @@
 use Rattle.std.proofs.Common.{◌≡◌, ◌∙◌, ◌↔◌, ℕ, Bool, false, List, [], Option, Some, None, ap, sym}
 use Rattle.std.specs.Prelude.{IsTrue}
 use Rattle.binary_operators.specs.Integers.{unsigned}
-use Rattle.binary_modules.specs.Sections.{IsNumber}
+use Rattle.binary_modules.specs.SectionsRead.{IsNumber}
 use borrow.Author.Tests.{clash}
 
 pub some_same : {A : Type 0} → (a b : A) → Some a ≡ Some b → a ≡ b

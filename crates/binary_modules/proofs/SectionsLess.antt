@@ -6,7 +6,8 @@ use Rattle.std.proofs.lemmas.Bool.{and_parts}
 use Rattle.binary_operators.specs.Integers.{unsigned, with_low}
 use Rattle.binary_operators.proofs.Shorter.{LeavesAtMost, NeverGrows}
 use Rattle.binary_modules.specs.Parts.{sized}
-use Rattle.binary_modules.specs.Sections.{Section, section, AreSectionsIn, next_ids, if_any, are_in_order, is_named}
+use Rattle.binary_modules.specs.Sections.{Section, section, next_ids, if_any, are_in_order, is_named}
+use Rattle.binary_modules.specs.SectionsRead.{AreSectionsIn}
 use Rattle.binary_modules.proofs.Once.{both_same, none_or_some}
 use borrow.Author.Tests.{clash}
 

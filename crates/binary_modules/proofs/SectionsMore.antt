@@ -4,7 +4,8 @@ use Rattle.std.specs.Prelude.{◌&&◌}
 use Rattle.std.specs.List.{list_all}
 use Rattle.std.proofs.lemmas.List.{map-append}
 use Rattle.binary_modules.specs.SectionList.{told_section, told_sections}
-use Rattle.binary_modules.specs.Sections.{Section, section, AreSectionsIn, next_ids, if_any, are_in_order, is_named}
+use Rattle.binary_modules.specs.Sections.{Section, section, next_ids, if_any, are_in_order, is_named}
+use Rattle.binary_modules.specs.SectionsRead.{AreSectionsIn}
 use Rattle.binary_modules.specs.declared.section_list.ContentSection.{ContentSection}
 
 -- one behind the others

@@ -10,7 +10,8 @@ use Rattle.validate_types.specs.declared.types.SubType.{SubType}
 use Rattle.module_rules.specs.declared.items.RecGroup.{RecGroup}
 use Rattle.binary_modules.specs.Parts.{marked}
 use Rattle.binary_modules.specs.SubTypes.{sub_type}
-use Rattle.binary_modules.specs.Groups.{Group, HasGroup, IsGroup, AreGroups, AreTypes, StandsFor, types_of, canonical_of, rec_group, group_count}
+use Rattle.binary_modules.specs.Groups.{Group, types_of, canonical_of, rec_group, group_count}
+use Rattle.binary_modules.specs.GroupsRead.{HasGroup, IsGroup, AreGroups, AreTypes, StandsFor}
 use Rattle.binary_modules.specs.Read.{HasTypes, HasNoTypes, HasNoRolled, HasNoGroup, AreNoTypes}
 use Rattle.binary_modules.proofs.Anyhow.{reads_wherever}
 
@@ -64,12 +65,34 @@ in_parts : (types : CanonicalTypes) (bytes : List ℕ) → rec_group types bytes
 unfolding rec_group
 in_parts types bytes = refl
 
-group_as : (s t : CanonicalTypes) → s.canonical.now ≡ t.canonical.now → s.group ≡ t.group → (bytes : List ℕ) → rec_group s bytes ≡ rec_group t bytes
+pub group_as : (s t : CanonicalTypes) → s.canonical.now ≡ t.canonical.now → s.group ≡ t.group → (bytes : List ℕ) → rec_group s bytes ≡ rec_group t bytes
 group_as s t here own bytes =
     in_parts s bytes
     ∙ ap (λ (item : List ℕ → Option (SubType × List ℕ)). option_and_then (counted_behind item) (marked 0x4e bytes))
     (λ i left. reads_wherever s t here own left i)
     ∙ sym (in_parts t bytes)
+
+listed_items : (explicit listed : Bool) (items : Option (List SubType × List ℕ)) (read : List SubType) (rest : List ℕ) → option_and_then {U = (Bool × List SubType) × List ℕ} (λ (r : List SubType × List ℕ). Some ((explicit, r.0), r.1)) items ≡ Some ((listed, read), rest) → explicit ≡ listed
+listed_items explicit listed None read rest e = absurd (none_read None ((listed, read), rest) refl e)
+listed_items explicit listed (Some r) read rest e =
+    ap (λ (o : Option ((Bool × List SubType) × List ℕ)). unwrap_or (option_map (λ (x : (Bool × List SubType) × List ℕ). x.0.0) o) explicit) e
+
+listed_behind : (item : List ℕ → Option (SubType × List ℕ)) (explicit listed : Bool) (count : Option (ℕ × List ℕ)) (read : List SubType) (rest : List ℕ) → option_and_then (types_behind item explicit) count ≡ Some ((listed, read), rest) → explicit ≡ listed
+listed_behind item explicit listed None read rest e = absurd (none_read None ((listed, read), rest) refl e)
+listed_behind item explicit listed (Some n) read rest e =
+    listed_items explicit listed (so_many item n.0 n.1) read rest e
+
+listed_in : (item : List ℕ → Option (SubType × List ℕ)) (mark : Option (Bool × List ℕ)) (listed : Bool) (read : List SubType) (rest : List ℕ) → option_and_then (counted_behind item) mark ≡ Some ((listed, read), rest) → option_map (λ (m : Bool × List ℕ). m.0) mark ≡ Some listed
+listed_in item None listed read rest e = absurd (none_read None ((listed, read), rest) refl e)
+listed_in item (Some m) listed read rest e =
+    ap (λ (x : Bool). Some x) (listed_behind item m.0 listed (group_count m.0 m.1) read rest e)
+
+-- whether a group is written as a list doesn't depend on how types are named
+pub listed_once : (s t : CanonicalTypes) (bytes : List ℕ) (explicit listed : Bool) (read more : List SubType) (rest behind : List ℕ) → rec_group s bytes ≡ Some ((explicit, read), rest) → rec_group t bytes ≡ Some ((listed, more), behind) → explicit ≡ listed
+listed_once s t bytes explicit listed read more rest behind e f =
+    some_same explicit listed
+    (sym (listed_in (sub_type s) (marked 0x4e bytes) explicit read rest (sym (in_parts s bytes) ∙ e))
+    ∙ listed_in (sub_type t) (marked 0x4e bytes) listed more behind (sym (in_parts t bytes) ∙ f))
 
 group_once : (canonical : List ℕ) (names : GroupNames) (bytes : List ℕ) (explicit listed : Bool) (read more : List SubType) (rest behind : List ℕ) → HasGroup canonical names bytes explicit read rest → HasGroup canonical names bytes listed more behind → (explicit ≡ listed) × (read ≡ more) × (rest ≡ behind)
 group_once canonical names bytes explicit listed read more rest behind h k =

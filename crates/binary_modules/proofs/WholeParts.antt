@@ -9,7 +9,7 @@ use Rattle.binary_modules.specs.Imports.{AreImports, AreCounted}
 use Rattle.binary_modules.specs.Initializers.{Expression}
 use Rattle.binary_modules.specs.Items.{Item, declared_items}
 use Rattle.binary_modules.specs.Kept.{Adds, told, told_expression}
-use Rattle.binary_modules.specs.Modules.{AreImported}
+use Rattle.binary_modules.specs.ModulesRead.{AreImported}
 use Rattle.binary_modules.specs.Sections.{Section}
 use Rattle.binary_modules.specs.declared.imports.Import.{Import}
 use Rattle.binary_modules.specs.declared.imports.Imported.{Imported}

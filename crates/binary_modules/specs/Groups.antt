@@ -1,16 +1,18 @@
 -- Recursion groups in the bytes of a module, and which of them are equal (WebAssembly core specification,
 -- "Binary Format: Types", "Recursive Types", and "Modules", "Type Section"; "Structure: Types", "Defined
 -- Types").
-use Rattle.std.specs.Prelude.{◌≡◌, ◌≢◌, ◌⊎◌, ℕ, Bool, true, false, List, [], ◌∷◌, ◌++◌, length, map}
-use Rattle.std.specs.Prelude.{flat_map, Option, Some}
+use Rattle.std.specs.Prelude.{ℕ, zero, suc, Bool, true, false, List, [], ◌∷◌, ◌++◌, length}
+use Rattle.std.specs.Prelude.{flat_map, Option, Some, if◌then◌else◌}
+use Rattle.std.specs.Cmp.Lexicographic.{pointwise}
 use Rattle.std.specs.List.{range_with_len}
+use Rattle.binary_operators.specs.Unplaced.{nowhere}
 use Rattle.binary_operators.specs.Integers.{unsigned}
 use Rattle.binary_operators.specs.Values.{◌>>=◌, so_many}
 use Rattle.binary_operators.specs.declared.types.CanonicalTypes.{CanonicalTypes}
 use Rattle.binary_operators.specs.declared.types.GroupNames.{GroupNames}
 use Rattle.binary_operators.specs.declared.types.GroupNames.TheVariants.{Places, Indices}
+use Rattle.validate_types.specs.contracts.types.SubTypePartialEq.TheImpl as sub_type_eq
 use Rattle.validate_types.specs.declared.types.SubType.{SubType}
-use Rattle.module_rules.specs.declared.items.RecGroup.{RecGroup}
 use Rattle.binary_modules.specs.Parts.{marked}
 use Rattle.binary_modules.specs.SubTypes.{sub_type}
 
@@ -28,16 +30,6 @@ rec_group types bytes = do
   count ← group_count explicit.0 explicit.1
   read ← so_many (sub_type types) count.0 count.1
   Some ((explicit.0, read.0), read.1)
-
--- The bytes begin with a group that is written so and has these types, where these stand for the types before
--- it, and its own are named so. (Where a list of types lies says nothing.)
-pub record HasGroup
-    (canonical : List ℕ) (names : GroupNames) (bytes : List ℕ) (explicit : Bool) (read : List SubType)
-    (rest : List ℕ) : Type 0 where
-  pub types : CanonicalTypes
-  pub are_before : types.canonical.now ≡ canonical
-  pub are_own : types.group ≡ names
-  pub is_read : rec_group types bytes ≡ Some ((explicit, read), rest)
 
 -- ---- the groups of a module
 
@@ -59,46 +51,48 @@ types_of groups = flat_map (λ (g : Group). g.types) groups
 abbrev pub canonical_of : List Group → List ℕ
 canonical_of groups = flat_map (λ (g : Group). range_with_len g.first (length g.types)) groups
 
--- An index stands for that of the first type of a group, which is rolled up: that of the first of these groups
--- that is equal to it, or this one where none is.
-abbrev pub StandsFor : List Group → List SubType → ℕ → ℕ → Type 0
-StandsFor [] rolled own first = first ≡ own
-StandsFor (g ∷ groups) rolled own first =
-    ((g.rolled ≡ rolled) × (first ≡ g.first)) ⊎ ((g.rolled ≢ rolled) × StandsFor groups rolled own first)
+-- how the types of a group are named: those before it by the indices that stand for them
+abbrev pub naming : List ℕ → GroupNames → CanonicalTypes
+naming canonical names = record { canonical = record { ref_ptr = nowhere; now = canonical }; group = names }
 
--- a group stands for the first one before it that is equal to it, or for itself where none is
-abbrev pub IsCanonical : List Group → Group → Type 0
-IsCanonical before g = StandsFor before g.rolled (length (canonical_of before)) g.first
+abbrev pub are_equal : List SubType → List SubType → Bool
+are_equal types others = pointwise (sub_type_eq.ghosts).eq types others
 
--- the bytes begin with this group, where these stand before it, and these bytes are behind it
-pub record IsGroup (before : List Group) (bytes : List ℕ) (g : Group) (behind : List ℕ) : Type 0 where
-  pub is_rolled : HasGroup (canonical_of before) Places bytes g.explicit g.rolled behind
-  pub end : List ℕ
-  pub is_declared : HasGroup (canonical_of before) (Indices g.first) bytes g.explicit g.types end
-  pub is_canonical : IsCanonical before g
+-- The index that stands for that of the first type of a group, which is rolled up: that of the first of these
+-- groups that is equal to it, or its own where none is.
+abbrev pub first_equal : List Group → List SubType → ℕ → ℕ
+first_equal [] rolled own = own
+first_equal (g ∷ groups) rolled own =
+    if are_equal g.rolled rolled then g.first else first_equal groups rolled own
 
--- the bytes begin with exactly these groups, where those stand before them, and these bytes are behind them
-abbrev pub AreGroups : List Group → List ℕ → List Group → List ℕ → Type 0
-AreGroups before bytes [] rest = bytes ≡ rest
-AreGroups before bytes (g ∷ groups) rest =
-    (behind : List ℕ) × IsGroup before bytes g behind × AreGroups (before ++ g ∷ []) behind groups rest
+abbrev pub first_of : List Group → List SubType → ℕ
+first_of before rolled = first_equal before rolled (length (canonical_of before))
 
--- how many types a group has, and whether it is written as a list
-abbrev pub shape : Group → ℕ × Bool
-shape g = (length g.types, g.explicit)
+-- the group that the bytes begin with, where these stand before it
+unfoldable pub group : List Group → List ℕ → Option (Group × List ℕ)
+group before bytes = do
+  rolled ← rec_group (naming (canonical_of before) Places) bytes
+  declared ← rec_group (naming (canonical_of before) (Indices (first_of before rolled.0.1))) bytes
+  Some (
+    record {
+      rolled = rolled.0.1;
+      types = declared.0.1;
+      first = first_of before rolled.0.1;
+      explicit = rolled.0.0;
+    },
+    rolled.1,
+  )
 
-abbrev pub written_shape : RecGroup → ℕ × Bool
-written_shape r = (r.count, r.explicit)
+-- so many groups, where these stand before them
+abbrev pub so_many_groups : List Group → ℕ → List ℕ → Option (List Group × List ℕ)
+so_many_groups before zero bytes = Some ([], bytes)
+so_many_groups before (suc n) bytes = do
+  first ← group before bytes
+  others ← so_many_groups (before ++ first.0 ∷ []) n first.1
+  Some (first.0 ∷ others.0, others.1)
 
--- The bytes begin with a list of groups, which have these types and are written so. For each type this index
--- stands. These bytes are behind the list.
-pub record AreTypes
-    (bytes : List ℕ) (types : List SubType) (canonical : List ℕ) (written : List RecGroup)
-    (rest : List ℕ) : Type 0 where
-  pub groups : List Group
-  pub behind : List ℕ
-  pub has_count : unsigned 32 bytes ≡ Some (length groups, behind)
-  pub are_groups : AreGroups [] behind groups rest
-  pub are_types : types ≡ types_of groups
-  pub are_canonical : canonical ≡ canonical_of groups
-  pub are_written : map written_shape written ≡ map shape groups
+-- how many groups there are, and the groups
+unfoldable pub groups : List ℕ → Option (List Group × List ℕ)
+groups bytes = do
+  count ← unsigned 32 bytes
+  so_many_groups [] count.0 count.1

@@ -1,5 +1,6 @@
 pub mod ContentsRead
 pub mod Groups
+pub mod GroupsRead
 pub mod Imports
 pub mod Initializers
 pub mod Items
@@ -7,10 +8,12 @@ pub mod Kept
 pub mod Limits
 pub mod Mixed
 pub mod Modules
+pub mod ModulesRead
 pub mod OwnRead
 pub mod Parts
 pub mod Read
 pub mod SectionList
 pub mod Sections
+pub mod SectionsRead
 pub mod Segments
 pub mod SubTypes

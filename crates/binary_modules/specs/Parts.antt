@@ -18,6 +18,21 @@ abbrev pub marked : ℕ → List ℕ → Option (Bool × List ℕ)
 marked code [] = None
 marked code (b ∷ bytes) = if nat_eq b code then Some (true, bytes) else Some (false, b ∷ bytes)
 
+-- what all the bytes are, where none is behind it
+abbrev pub if_no_more : {A : Type 0} → A → List ℕ → Option A
+if_no_more x [] = Some x
+if_no_more x (b ∷ bytes) = None
+
+abbrev pub whole : {A : Type 0} → Option (A × List ℕ) → Option A
+whole None = None
+whole (Some x) = if_no_more x.0 x.1
+
+-- the bytes behind these, which stand first
+abbrev pub bytes_behind : List ℕ → List ℕ → Option (List ℕ)
+bytes_behind [] bytes = Some bytes
+bytes_behind (code ∷ codes) [] = None
+bytes_behind (code ∷ codes) (b ∷ bytes) = if nat_eq b code then bytes_behind codes bytes else None
+
 -- so many bytes
 abbrev pub so_many_bytes : ℕ → List ℕ → Option (List ℕ × List ℕ)
 so_many_bytes count bytes =

@@ -13,8 +13,9 @@ use Rattle.binary_operators.specs.declared.types.GroupNames.TheVariants.{Places,
 use Rattle.validate_types.specs.declared.types.SubType.{SubType}
 use Rattle.module_rules.specs.declared.items.RecGroup.{RecGroup}
 use Rattle.binary_modules.specs.SubTypes.{sub_type}
-use Rattle.binary_modules.specs.Groups.{Group, types_of, canonical_of, shape, written_shape}
-use Rattle.binary_modules.specs.Groups.{IsGroup, StandsFor, AreTypes}
+use Rattle.binary_modules.specs.Groups.{Group, types_of, canonical_of}
+use Rattle.binary_modules.specs.GroupsRead.{shape, written_shape}
+use Rattle.binary_modules.specs.GroupsRead.{IsGroup, StandsFor, AreTypes}
 use Rattle.binary_modules.specs.Mixed.{mix_types}
 use Rattle.binary_modules.specs.contracts.mixed.RolledGroupOrd.TheImpl as rolled_ord
 use Rattle.binary_modules.specs.declared.groups.Groups.{Groups}

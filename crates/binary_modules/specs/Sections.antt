@@ -1,11 +1,11 @@
 -- The sections of a module (WebAssembly core specification, "Binary Format: Modules", "Sections" and
 -- "Modules"; the standard gives the places of sections in its grammar of modules).
-use Rattle.std.specs.Prelude.{◌≡◌, ℕ, Bool, true, false, List, [], ◌∷◌, ◌||◌, not}
+use Rattle.std.specs.Prelude.{ℕ, zero, suc, Bool, true, false, List, [], ◌∷◌, length, ◌||◌, ◌&&◌, not}
 use Rattle.std.specs.Prelude.{Option, Some, None, is_some, nat_eq, if◌then◌else◌}
 use Rattle.std.specs.List.{list_all}
 use Rattle.binary_operators.specs.Integers.{unsigned}
-use Rattle.binary_operators.specs.Values.{◌>>=◌, byte}
-use Rattle.binary_modules.specs.Parts.{name, sized}
+use Rattle.binary_operators.specs.Values.{◌>>=◌, byte, list_of}
+use Rattle.binary_modules.specs.Parts.{bytes_behind, name, sized, whole}
 
 pub record Section : Type 0 where
   pub id : ℕ
@@ -17,11 +17,14 @@ section bytes = do
   contents ← sized id.1
   Some (record { id = id.0; contents = contents.0 }, contents.1)
 
--- the bytes begin with exactly these sections, and these bytes are behind them
-abbrev pub AreSectionsIn : List ℕ → List Section → List ℕ → Type 0
-AreSectionsIn bytes [] rest = bytes ≡ rest
-AreSectionsIn bytes (s ∷ sections) rest =
-    (behind : List ℕ) × (section bytes ≡ Some (s, behind)) × AreSectionsIn behind sections rest
+-- the sections that all the bytes are, which are no more than bytes
+abbrev pub sections : ℕ → List ℕ → Option (List Section)
+sections most [] = Some []
+sections zero (b ∷ bytes) = None
+sections (suc most) (b ∷ bytes) = do
+  first ← section (b ∷ bytes)
+  others ← sections most first.1
+  Some (first.0 ∷ others)
 
 -- ---- their order
 
@@ -52,14 +55,16 @@ are_in_order ids (s ∷ sections) = if_any (next_ids s.id ids) (λ rest. are_in_
 abbrev pub is_named : Section → Bool
 is_named s = not (nat_eq s.id 0) || is_some (name s.contents)
 
--- what a module has behind its header: the bytes have these sections
-pub record AreSections (bytes : List ℕ) (sections : List Section) : Type 0 where
-  pub behind : List ℕ
-  pub has_header :
-      bytes ≡ 0x00 ∷ 0x61 ∷ 0x73 ∷ 0x6d ∷ 0x01 ∷ 0x00 ∷ 0x00 ∷ 0x00 ∷ behind
-  pub are_read : AreSectionsIn behind sections []
-  pub are_ordered : are_in_order section_ids sections ≡ true
-  pub are_named : list_all is_named sections ≡ true
+-- the bytes behind the header of a module
+abbrev pub header : List ℕ → Option (List ℕ)
+header bytes = bytes_behind (0x00 ∷ 0x61 ∷ 0x73 ∷ 0x6d ∷ 0x01 ∷ 0x00 ∷ 0x00 ∷ 0x00 ∷ []) bytes
+
+-- the sections of a module, which are in order, and of which each custom one has a name
+unfoldable pub module_sections : List ℕ → Option (List Section)
+module_sections bytes = do
+  left ← header bytes
+  all ← sections (length left) left
+  if are_in_order section_ids all && list_all is_named all then Some all else None
 
 -- ---- what stands in them
 
@@ -74,7 +79,16 @@ section_contents id [] = None
 section_contents id (s ∷ sections) =
     if nat_eq s.id id then Some s.contents else section_contents id sections
 
--- a section with these contents is this number, or there is neither
-abbrev pub IsNumber : Option (List ℕ) → Option ℕ → Type 0
-IsNumber None number = number ≡ None
-IsNumber (Some contents) number = (n : ℕ) × (unsigned 32 contents ≡ Some (n, [])) × (number ≡ Some n)
+-- all items of the section with this id
+abbrev pub items_of : {A : Type 0} → (List ℕ → Option (A × List ℕ)) → ℕ → List Section → Option (List A)
+items_of item id sections = whole (list_of item (contents_of id sections))
+
+-- the number that a section is, if there is one
+abbrev pub number_in : Option (List ℕ) → Option (Option ℕ)
+number_in None = Some None
+number_in (Some contents) = do
+  number ← whole (unsigned 32 contents)
+  Some (Some number)
+
+abbrev pub number_of : ℕ → List Section → Option (Option ℕ)
+number_of id sections = number_in (section_contents id sections)

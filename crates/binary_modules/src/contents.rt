@@ -9,7 +9,8 @@ ghost use Rattle.binary_modules.specs.Kept.{Adds};
 ghost use Rattle.binary_modules.specs.declared.contents.SectionNumber.{SectionNumber};
 ghost use Rattle.binary_modules.specs.Parts.{sized};
 ghost use Rattle.binary_modules.specs.SectionList.{told_sections};
-ghost use Rattle.binary_modules.specs.Sections.{contents_of, section_contents, IsNumber};
+ghost use Rattle.binary_modules.specs.Sections.{contents_of, section_contents};
+ghost use Rattle.binary_modules.specs.SectionsRead.{IsNumber};
 
 use crate::entries::{Entry, read_entries};
 use crate::initializers::Initializers;

@@ -2,7 +2,8 @@
 
 ghost use Rattle.std.specs.Prelude.{◌≢◌, IfOk, IfErr, OnOk};
 ghost use Rattle.binary_operators.specs.declared.error.Cause.TheVariants.{OutOfMemory};
-ghost use Rattle.binary_modules.specs.Modules.{Contents, AreContents};
+ghost use Rattle.binary_modules.specs.Modules.{Contents};
+ghost use Rattle.binary_modules.specs.ModulesRead.{AreContents};
 ghost use Rattle.binary_modules.specs.OwnRead.{HasOwnItems, HasSegments};
 ghost use Rattle.binary_modules.specs.SectionList.{told_sections};
 

@@ -5,7 +5,8 @@ ghost use Rattle.std.specs.List.{list_all};
 ghost use Rattle.binary_operators.specs.declared.error.Cause.TheVariants.{OutOfMemory};
 ghost use Rattle.binary_modules.specs.Parts.{sized};
 ghost use Rattle.binary_modules.specs.SectionList.{told_section, told_sections};
-ghost use Rattle.binary_modules.specs.Sections.{Section, section, ids_behind, next_ids, section_ids, contents_of, section_contents, is_named, AreSectionsIn, are_in_order};
+ghost use Rattle.binary_modules.specs.Sections.{Section, section, ids_behind, next_ids, section_ids, contents_of, section_contents, is_named, are_in_order};
+ghost use Rattle.binary_modules.specs.SectionsRead.{AreSectionsIn};
 ghost use Rattle.binary_modules.specs.declared.section_list.ContentSection.{ContentSection};
 
 use crate::parts::read_name;

@@ -1,6 +1,6 @@
 //! A whole module (WebAssembly core specification, "Binary Format: Modules").
 
-ghost use Rattle.std.specs.Prelude.{ℕ, ◌≡◌, ◌≢◌, ◌+◌, List, [], ◌∷◌, ◌++◌, map, length, Some, IfOk, IfErr, OnOk, OnErr, IfSome, option_map};
+ghost use Rattle.std.specs.Prelude.{ℕ, ◌≡◌, ◌≢◌, ◌+◌, List, [], ◌∷◌, ◌++◌, map, length, Some, None, IfOk, IfErr, OnOk, OnErr, IfSome, option_map};
 ghost use Rattle.binary_operators.specs.Values.{list_of};
 ghost use Rattle.binary_operators.specs.declared.error.Cause.TheVariants.{OutOfMemory};
 ghost use Rattle.module_rules.specs.Declarations.{Declarations, declarations_of};
@@ -9,15 +9,17 @@ ghost use Rattle.module_rules.specs.declared.items.RecGroup.{RecGroup};
 ghost use Rattle.module_rules.specs.declared.module.Place.{Place};
 ghost use Rattle.validate_types.specs.declared.types.SubType.{SubType};
 ghost use Rattle.binary_modules.specs.ContentsRead.{IsList, bytes_of};
-ghost use Rattle.binary_modules.specs.Groups.{AreTypes};
+ghost use Rattle.binary_modules.specs.GroupsRead.{AreTypes};
 ghost use Rattle.binary_modules.specs.Imports.{HasImports, AreCounted};
 ghost use Rattle.binary_modules.specs.Items.{Item, exported, import_item};
 ghost use Rattle.binary_modules.specs.Kept.{told};
-ghost use Rattle.binary_modules.specs.Modules.{Contents, AreContents, HasContents, IsModule, IsNoModule};
+ghost use Rattle.binary_modules.specs.Modules.{Contents, IsModule, IsNoModule, module_in, unplaced_module};
+ghost use Rattle.binary_modules.specs.ModulesRead.{AreContents};
 ghost use Rattle.binary_modules.specs.OwnRead.{HasOwnItems, HasSegments};
 ghost use Rattle.binary_modules.specs.Parts.{sized};
 ghost use Rattle.binary_modules.specs.SectionList.{told_sections};
-ghost use Rattle.binary_modules.specs.Sections.{contents_of, section_contents, IsNumber};
+ghost use Rattle.binary_modules.specs.Sections.{contents_of, section_contents};
+ghost use Rattle.binary_modules.specs.SectionsRead.{IsNumber};
 ghost use Rattle.binary_modules.specs.declared.contents.SectionNumber.{SectionNumber};
 ghost use Rattle.binary_modules.specs.declared.imports.Import.{Import};
 ghost use Rattle.binary_modules.specs.declared.imports.Imported.{Imported};
@@ -325,11 +327,9 @@ fn read_contents<'a>(
 ) -> Result<Module<'a>, ReadError>
     ensures counted { IfOk result (λ m. m.declared.imports.functions + length m.bodies.items
         ≡ length m.declared.functions.items) }
-    ensures read { IfOk result (λ m. HasContents (told_sections sections.now) (declarations_of m.declared)
-        (bytes_of m.bodies.items) (map told m.expressions.items)) }
-    ensures refused { IfErr result (λ e. e.cause ≢ OutOfMemory → (d : Declarations) → (bodies : List (List ℕ))
-        → (expressions : List (Place × List ℕ))
-        → HasContents (told_sections sections.now) d bodies expressions → ⊥) }
+    ensures read { IfOk result (λ m. module_in (told_sections sections.now) ≡ Some (unplaced_module
+        (declarations_of m.declared) (bytes_of m.bodies.items) (map told m.expressions.items))) }
+    ensures refused { IfErr result (λ e. e.cause ≢ OutOfMemory → module_in (told_sections sections.now) ≡ None) }
 {
     let types = read_type_section(alloc, sections)?;
     let canonical = CanonicalTypes::new(&types.canonical);

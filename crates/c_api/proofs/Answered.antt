@@ -1,9 +1,12 @@
 -- What a status says of an answer.
-use Rattle.std.proofs.Common.{◌≡◌, ◌≢◌, ◌≤◌, ℕ, true, false, List, Result, Ok, Err, IfOk, IfErr, OnOk, OnErr, inl, inr, ap, ◌∙◌, sym, refl, subst, arith}
+use Rattle.std.proofs.Common.{◌≡◌, ◌≢◌, ◌≤◌, ℕ, zero, suc, true, false, List, Result, Ok, Err, IfOk, IfErr, OnOk, OnErr, inl, inr, ap, ◌∙◌, sym, refl, subst, arith}
 use Rattle.std.specs.Prelude.{◌⊎◌, MatchResult}
-use Rattle.module_check.specs.Verdicts.{status_of, IsCovered}
+use Rattle.module_check.specs.Verdicts.{status_of, IsCovered, SaysNo}
+use Rattle.module_check.specs.declared.load_refusal.LoadRefusal.{LoadRefusal}
+use Rattle.module_check.specs.declared.load_refusal.LoadRefusal.TheVariants.{Judged, TooLarge}
 use Rattle.module_check.specs.declared.verdict.Verdict.{Verdict}
 use Rattle.module_check.specs.declared.verdict.Verdict.TheVariants.{Accepted, Refused, Malformed, NotCovered, OutOfMemory}
+use Rattle.validate_types.specs.declared.error.Error.{Error}
 use Rattle.wasmparser_validate.specs.Functions.{Fails}
 use Rattle.c_api.specs.FunctionCalls.{OpAnswer}
 use Rattle.c_api.specs.Functions.{InProgress, Takes, CannotTake, IsUncoveredOperator}
@@ -49,6 +52,12 @@ not_other s n z a b c d = elim d [ inl e ↦ a (sym z ∙ e) | inr d ↦ elim d 
 -- what was noted at first doesn't tell of something before
 pub not_before : (s : ℕ) → s ≡ 0 → s ≡ 4 → ⊥
 not_before s z four = omega (arith, z, four)
+
+pub few_before : (s : ℕ) → s ≡ 0 → s ≤ 4
+few_before s z = omega (arith, z)
+
+pub four_says_no : (s : ℕ) → s ≡ 4 → SaysNo s
+four_says_no s four = (λ zero. omega (arith, zero, four), λ three. omega (arith, three, four))
 
 pub not_one_before : (s : ℕ) → s ≡ 0 → s ≡ 1 → ⊥
 not_one_before s z one = omega (arith, z, one)
@@ -172,3 +181,17 @@ done (Err v) s P t p h z = absurd (not_accepted v h (sym t ∙ z))
 pub undone : (r : Result (Unit {0}) Verdict) (s : ℕ) (P : Type 0) → MatchResult r (λ _. s ≡ 0) (λ v. s ≡ status_of v) → OnErr r P → s ≢ 0 → P
 undone (Ok x) s P t h d = absurd (d t)
 undone (Err v) s P t h d = h
+
+other_load : (w v : LoadRefusal) → v ≡ Judged OutOfMemory → v ≡ w → w ≢ Judged OutOfMemory → ⊥
+other_load w v is same other = other (sym same ∙ is)
+
+-- a refusal for want of memory has its status
+pub wanting : (s : ℕ) (v : LoadRefusal) → v ≡ Judged OutOfMemory → s ≢ 0 → (s ≡ 1 → (e : Error) × (v ≡ Judged (Refused e))) → (s ≡ 2 → (e : Error) × (v ≡ Judged (Malformed e))) → (s ≡ 4 → (offset : ℕ) × (v ≡ Judged (NotCovered offset))) → (s ≡ 7 → (e : Error) × (v ≡ TooLarge e)) → (s ≤ 4) ⊎ (s ≡ 7) → s ≡ 3
+wanting s v is some invalid malformed uncovered large (inr seven) = absurd (other_load (TooLarge (large seven).0) v is (large seven).1 (λ e. cc))
+wanting zero v is some invalid malformed uncovered large (inl few) = absurd (some refl)
+wanting (suc zero) v is some invalid malformed uncovered large (inl few) = absurd (other_load (Judged (Refused (invalid refl).0)) v is (invalid refl).1 (λ e. cc))
+wanting (suc (suc zero)) v is some invalid malformed uncovered large (inl few) = absurd (other_load (Judged (Malformed (malformed refl).0)) v is (malformed refl).1 (λ e. cc))
+wanting (suc (suc (suc zero))) v is some invalid malformed uncovered large (inl few) = refl
+wanting (suc (suc (suc (suc n)))) v is some invalid malformed uncovered large (inl few) =
+    let four : suc (suc (suc (suc n))) ≡ 4 = omega (arith, few) in
+    absurd (other_load (Judged (NotCovered (uncovered four).0)) v is (uncovered four).1 (λ e. cc))

@@ -1,8 +1,10 @@
 -- A module that was read of the bytes, and is valid or isn't covered; or why it wasn't read.
-use Rattle.std.proofs.Common.{◌≡◌, ℕ, true, List, drop, inl, inr, ◌∙◌, subst}
-use Rattle.std.specs.Prelude.{Result, Ok, Err, IsOk, IfOk, IfErr, MatchResult}
+use Rattle.std.proofs.Common.{◌≡◌, ◌≤◌, arith, refl, ℕ, zero, suc, true, List, drop, inl, inr, ◌∙◌, subst}
+use Rattle.std.specs.Prelude.{◌⊎◌, Result, Ok, Err, IsOk, IfOk, IfErr, MatchResult}
 use Rattle.binary_operators.specs.Vectors.{BeginVector}
-use Rattle.module_check.specs.Loaded.{bytes_of, features_of, AreTooLarge, IsValid}
+use Rattle.module_check.specs.Decoded.{AreNoValidModule, AreTooLarge, AreValidModule}
+use Rattle.module_check.specs.Loaded.{bytes_of, features_of, IsAcceptedModule, IsValid}
+use Rattle.module_check.proofs.Decoded.{are_valid, is_no_valid, not_past, unread_no_valid}
 use Rattle.module_check.specs.declared.loaded.LoadedModule.{LoadedModule}
 use Rattle.binary_modules.specs.Modules.{IsNoModule}
 use Rattle.module_check.specs.FaultyModule.{HasInvalid, HasMalformed}
@@ -17,10 +19,11 @@ use Rattle.module_check.specs.Unbodied.{BeginsModule, declared_by, features_of a
 use Rattle.module_check.specs.declared.unbodied.LoadedDeclarations.{LoadedDeclarations}
 use Rattle.validate_types.specs.Features.{has, simd}
 use Rattle.validate_types.specs.declared.error.Error.{Error}
-use Rattle.c_api.specs.Calls.{IsLoadedFrom, IsValidModuleOf, AreDeclaredFrom}
+use Rattle.c_api.specs.Calls.{IsLoadedFrom, AreDeclaredFrom}
 
-pub read_valid : (bytes : List ℕ) (bits : ℕ) (r : Result LoadedModule LoadRefusal) → IfOk r (IsLoadedFrom bytes bits) → IsOk r → IfOk r IsValid → IsValidModuleOf bytes bits
-read_valid bytes bits (Ok m) l o s = record { read = m; is_loaded = l; is_valid = s }
+pub read_valid : (bytes : List ℕ) (bits : ℕ) (r : Result LoadedModule LoadRefusal) → IfOk r (IsLoadedFrom bytes bits) → IsOk r → IfOk r IsValid → AreValidModule (of_bits bits) bytes
+read_valid bytes bits (Ok m) l o s =
+    subst (λ (f : ModuleFeatures). AreValidModule f bytes) l.has_features (subst (AreValidModule (features_of m)) l.has_bytes (are_valid m s))
 read_valid bytes bits (Err v) l o s = absurd cc
 
 pub loaded_from : (bytes : List ℕ) (bits : ℕ) (f : ModuleFeatures) (r : Result LoadedModule LoadRefusal) → IfOk r (λ m. bytes_of m ≡ bytes) → IfOk r (λ m. features_of m ≡ f) → f ≡ of_bits bits → IfOk r (IsLoadedFrom bytes bits)
@@ -62,3 +65,32 @@ read_malformed bytes bits (Err v) l u h = inl (u h.0 h.1)
 pub read_invalid : (bytes : List ℕ) (bits : ℕ) (r : Result LoadedModule LoadRefusal) → IfOk r (IsLoadedFrom bytes bits) → IfErr r (λ v. (e : Error) → v ≡ Judged (Refused e) → AreUnloaded (of_bits bits) bytes) → MatchResult r HasInvalid (λ v. (e : Error) × (v ≡ Judged (Refused e))) → AreInvalid (of_bits bits) bytes
 read_invalid bytes bits (Ok m) l u h = inr (record { loaded = m; of_bytes = l.has_bytes; under = l.has_features; has_invalid = h })
 read_invalid bytes bits (Err v) l u h = inl (u h.0 h.1)
+
+-- ---- of the bytes of a valid module, no other status is told
+
+not_refused : (features : ModuleFeatures) (bytes : List ℕ) → AreValidModule features bytes → AreNoValidModule features bytes → ⊥
+not_refused features bytes h none = none h.decoded h.is_decoded h.is_valid
+
+-- a module that was read isn't accepted, or bytes that have a vector operator weren't read
+pub read_no_valid : (bytes : List ℕ) (bits : ℕ) (r : Result LoadedModule LoadRefusal) → IfOk r (IsLoadedFrom bytes bits) → IfErr r (λ v. (offset : ℕ) → v ≡ Judged (NotCovered offset) → IsNoModule bytes) → IfOk r (λ m. ¬ IsAcceptedModule m) → MatchResult r HasUncovered (λ v. (offset : ℕ) × (v ≡ Judged (NotCovered offset))) → AreNoValidModule (of_bits bits) bytes
+read_no_valid bytes bits (Ok m) l unread none found =
+    subst (λ (f : ModuleFeatures). AreNoValidModule f bytes) l.has_features (subst (AreNoValidModule (features_of m)) l.has_bytes (is_no_valid m none))
+read_no_valid bytes bits (Err v) l unread none found = unread_no_valid (of_bits bits) bytes (unread found.0 found.1)
+
+up_to_four : (status : ℕ) → status ≤ 4 → (status ≡ 0) ⊎ (status ≡ 1) ⊎ (status ≡ 2) ⊎ (status ≡ 3) ⊎ (status ≡ 4)
+up_to_four zero h = inl refl
+up_to_four (suc zero) h = inr (inl refl)
+up_to_four (suc (suc zero)) h = inr (inr (inl refl))
+up_to_four (suc (suc (suc zero))) h = inr (inr (inr (inl refl)))
+up_to_four (suc (suc (suc (suc n)))) h = inr (inr (inr (inr (omega (arith, h)))))
+
+pub no_other : (features : ModuleFeatures) (bytes : List ℕ) (status : ℕ) → ((status ≡ 1) ⊎ (status ≡ 2) → AreNoValidModule features bytes) → (status ≡ 4 → AreNoValidModule features bytes) → (status ≡ 7 → AreTooLarge bytes) → (status ≤ 4) ⊎ (status ≡ 7) → AreValidModule features bytes → (status ≡ 0) ⊎ (status ≡ 3)
+no_other features bytes status refused uncovered large (inr seven) h = absurd (not_past features bytes (record { decoded = h.decoded; is_decoded = h.is_decoded; is_valid = h.is_valid.declarations_valid; is_within = h.is_within }) (large seven))
+no_other features bytes status refused uncovered large (inl few) h =
+    elim (up_to_four status few) [
+      | inl none ↦ inl none
+      | inr (inl one) ↦ absurd (not_refused features bytes h (refused (inl one)))
+      | inr (inr (inl two)) ↦ absurd (not_refused features bytes h (refused (inr two)))
+      | inr (inr (inr (inl three))) ↦ inr three
+      | inr (inr (inr (inr four))) ↦ absurd (not_refused features bytes h (uncovered four))
+    ]

@@ -1,6 +1,6 @@
 -- What the calls on a module say (the crate's own).
 use Rattle.std.specs.Prelude.{◌≡◌, ℕ, ◌≤◌, List, None, Some}
-use Rattle.module_check.specs.Loaded.{bytes_of, body_at, features_of, IsValid}
+use Rattle.module_check.specs.Loaded.{bytes_of, body_at, features_of}
 use Rattle.module_check.specs.declared.loaded.LoadedModule.{LoadedModule}
 use Rattle.module_check.specs.Unbodied.{BeginsModule, declared_by, features_of as features_alone}
 use Rattle.module_check.specs.declared.unbodied.LoadedDeclarations.{LoadedDeclarations}
@@ -67,12 +67,6 @@ IsDeclared (Declared d) = Unit {0}
 pub record IsLoadedFrom (bytes : List ℕ) (bits : ℕ) (m : LoadedModule) : Type 0 where
   pub has_bytes : bytes_of m ≡ bytes
   pub has_features : features_of m ≡ of_bits bits
-
--- a module was read of these bytes, and is valid under the proposals that these bits stand for
-pub record IsValidModuleOf (bytes : List ℕ) (bits : ℕ) : Type 0 where
-  pub read : LoadedModule
-  pub is_loaded : IsLoadedFrom bytes bits read
-  pub is_valid : IsValid read
 
 -- what was declared was read of these bytes, under the proposals that these bits stand for
 pub record AreDeclaredFrom (bytes : List ℕ) (bits : ℕ) (d : LoadedDeclarations) : Type 0 where

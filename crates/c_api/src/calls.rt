@@ -1,21 +1,22 @@
 //! The calls of C on a module.
 
-ghost use Rattle.std.specs.Prelude.{◌≡◌, ◌≢◌, ◌⊎◌, ◌≤◌, ◌<◌, ◌-◌, ◌^◌, ◌↔◌, ℕ, length, min, true, false, None, Some, IsOk, IfOk, IfErr, IfSome, MatchResult};
+ghost use Rattle.std.specs.Prelude.{◌≡◌, ◌≢◌, ◌⊎◌, ◌≤◌, ◌<◌, ◌-◌, ◌^◌, ◌↔◌, ℕ, length, min, true, false, None, Some, IsOk, IfOk, IfErr, OnOk, IfSome, MatchResult};
 ghost use Rattle.binary_modules.specs.Modules.{IsNoModule};
 ghost use Rattle.module_check.specs.FaultyModule.{HasInvalid, HasMalformed, IsMalformedFunction, IsRefusedFunction};
 ghost use Rattle.module_check.specs.Items.{item_count};
-ghost use Rattle.module_check.specs.Loaded.{AreTooLarge, IsAcceptedFunction, IsAcceptedModule, IsSafeFunction, IsValid};
+ghost use Rattle.module_check.specs.Decoded.{AreNoValidModule, AreTooLarge, AreValidModule, DeclareValid};
+ghost use Rattle.module_check.specs.Loaded.{IsAcceptedFunction, IsAcceptedModule, IsSafeFunction, IsValid};
 ghost use Rattle.module_check.specs.UncoveredModule.{AreUncovered, HasUncovered, HasVectorIn, IsUncoveredFunction};
 ghost use Rattle.module_check.specs.Unloaded.{AreInvalid, AreMalformed, AreUnloaded, Completed};
 ghost use Rattle.module_check.specs.Verdicts.{IsConsistent, Reports, SaysNo, total};
 ghost use Rattle.module_check.specs.declared.load_refusal.LoadRefusal.TheVariants.{Judged, TooLarge};
 ghost use Rattle.module_check.specs.declared.verdict.Item.TheVariants.{Function};
-ghost use Rattle.module_check.specs.declared.verdict.Verdict.TheVariants.{Accepted, Refused, Malformed, NotCovered};
+ghost use Rattle.module_check.specs.declared.verdict.Verdict.TheVariants.{Accepted, Refused, Malformed, NotCovered, OutOfMemory};
 ghost use Rattle.module_rules.specs.Features.{of_bits};
 ghost use Rattle.validate_types.specs.declared.error.Error.{Error};
 ghost use Rattle.c_api.specs.Answers.{BodyAnswer, ModuleAnswer, NextAnswer};
 ghost use Rattle.c_api.specs.Calls.{OnHeld, OfHeld, OnModule, OfModule, OnDeclared, HaveTheSame};
-ghost use Rattle.c_api.specs.Calls.{IsLoadedFrom, IsValidModuleOf, AreDeclaredFrom};
+ghost use Rattle.c_api.specs.Calls.{IsLoadedFrom, AreDeclaredFrom};
 ghost use Rattle.c_api.specs.Calls.{HasNoModule, HasNoBody, IsDeclared};
 ghost use Rattle.c_api.specs.Handle.{held_in};
 ghost use Rattle.c_api.specs.Items.{AreSafeFrom, IsReported};
@@ -45,9 +46,14 @@ pub(crate) fn status_of(verdict: &ModuleVerdict) -> u32
 /// bits that stand for none say nothing.
 fn read<'a>(alloc: Global, bytes: &'a [u8], features: u32) -> Result<LoadedModule<'a>, LoadRefusal>
     ensures loaded { IfOk result (IsLoadedFrom bytes.now features) }
+    ensures valid { OnOk result (DeclareValid (of_bits features) bytes.now) }
+    ensures complete { IfErr result (λ refusal. DeclareValid (of_bits features) bytes.now
+        → refusal ≡ Judged OutOfMemory) }
     ensures refused { IfErr result (λ refusal. refusal ≢ Judged Accepted) }
     ensures uncovered { IfErr result (λ refusal. (offset : ℕ) → refusal ≡ Judged (NotCovered offset)
         → HasVectorIn (of_bits features) bytes.now) }
+    ensures unread { IfErr result (λ refusal. (offset : ℕ) → refusal ≡ Judged (NotCovered offset)
+        → IsNoModule bytes.now) }
     ensures malformed { IfErr result (λ refusal. (e : Error) → refusal ≡ Judged (Malformed e)
         → IsNoModule bytes.now) }
     ensures invalid { IfErr result (λ refusal. (e : Error) → refusal ≡ Judged (Refused e)
@@ -92,6 +98,7 @@ fn check_read(
     ensures consistent { IsConsistent (length text.new) out.new }
     ensures read { out.new.status ≡ 0 → IsOk read.now }
     ensures valid { out.new.status ≡ 0 → IfOk read.now IsValid }
+    ensures refused { out.old.status ≡ 0 → SaysNo out.new.status → IfOk read.now (λ m. ¬ IsAcceptedModule m) }
     ensures uncovered { out.new.status ≡ 4 → (out.old.status ≡ 4)
         ⊎ MatchResult read.now HasUncovered (λ refusal. (offset : ℕ) × (refusal ≡ Judged (NotCovered offset))) }
     ensures malformed { out.old.status ≡ 0 → out.new.status ≡ 2
@@ -110,10 +117,13 @@ fn check_read(
 
 /// Checks a module, of which these are all the bytes, under these proposals: what it declares, each body and each
 /// constant expression. It writes the totals to `out`, and to `text` the text of the first finding of the gravest kind,
-/// cut to the room there. It answers the status: where that is 0, the module is valid; where it is 2, the bytes are no
-/// module's, or one of these is malformed; where it is 1, what it declares isn't valid, or one of these is refused; where it
-/// is 4, one of these has a vector operator behind accepted ones, or an expression has one at which it can't be read; where
-/// it is 7, what it declares is past a limit.
+/// cut to the room there.
+///
+/// It answers the status. Where that is 0, the bytes are decoded to a module that is valid, within the limits and type
+/// safe; and of such bytes it answers no other, but that of out of memory. Where it is 1 or 2, they are decoded to no valid one: where it is 2, they are no module's, or one of these is
+/// malformed; where it is 1, what it declares isn't valid, or one of these is refused. Where it is 4, one of these has a
+/// vector operator behind accepted ones, or an expression has one at which it can't be read; where it is 7, what it declares
+/// is past a limit.
 pub fn validate(
     alloc: Global,
     bytes: &[u8],
@@ -123,7 +133,9 @@ pub fn validate(
 ) -> u32
     ensures status { result ≡ out.new.status }
     ensures consistent { IsConsistent (length text.new) out.new }
-    ensures valid { result ≡ 0 → IsValidModuleOf bytes.now features }
+    ensures valid { result ≡ 0 → AreValidModule (of_bits features) bytes.now }
+    ensures complete { AreValidModule (of_bits features) bytes.now → (result ≡ 0) ⊎ (result ≡ 3) }
+    ensures refused { (result ≡ 1) ⊎ (result ≡ 2) → AreNoValidModule (of_bits features) bytes.now }
     ensures uncovered { result ≡ 4 → AreUncovered (of_bits features) bytes.now }
     ensures malformed { result ≡ 2 → AreMalformed (of_bits features) bytes.now }
     ensures invalid { result ≡ 1 → AreInvalid (of_bits features) bytes.now }
@@ -158,7 +170,8 @@ pub(crate) fn keep(alloc: Global, kept: Kept, handle: &mut Handle) -> bool
 }
 
 /// Reads a module into a handle, of which these are all the bytes, and checks that what it declares is valid under these
-/// proposals. Where the status is 0, the handle has it, and what it had before is freed; else it stays as it was.
+/// proposals. Where the status is 0, the handle has it, and what it had before is freed; else it stays as it was. It is 0
+/// exactly for the bytes of a module whose declarations are valid and within the limits, unless memory runs out.
 pub fn load(
     alloc: Global,
     bytes: &'static [u8],
@@ -170,6 +183,8 @@ pub fn load(
     ensures status { result ≡ out.new.status }
     ensures consistent { IsConsistent (length text.new) out.new }
     ensures loaded { result ≡ 0 → OnModule handle.new.held (IsLoadedFrom bytes.now features) }
+    ensures valid { result ≡ 0 → DeclareValid (of_bits features) bytes.now }
+    ensures complete { DeclareValid (of_bits features) bytes.now → (result ≡ 0) ⊎ (result ≡ 3) }
     ensures unchanged { result ≢ 0 → handle.new.held ≡ handle.old.held }
     ensures uncovered { result ≡ 4 → HasVectorIn (of_bits features) bytes.now }
     ensures malformed { result ≡ 2 → IsNoModule bytes.now }

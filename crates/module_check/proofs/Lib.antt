@@ -1,10 +1,13 @@
 pub mod Begun
 pub mod Behind
 pub mod Counted
+pub mod Decoded
+pub mod Faulty
 pub mod FirstBytes
 pub mod FirstFaults
 pub mod Forms
 pub mod Groups
+pub mod Offsets
 pub mod Row
 pub mod Sections
 pub mod Turned

@@ -13,3 +13,6 @@ malformed_told v e is wanting = absurd cc
 
 pub refused_told : (v : Verdict) (e : Error) → Judged v ≡ Judged (Refused e) → v ≡ OutOfMemory → ⊥
 refused_told v e is wanting = absurd cc
+
+pub judged_same : {v w : Verdict} → Judged v ≡ Judged w → v ≡ w
+judged_same is = cc

@@ -1,6 +1,7 @@
 pub mod Accepted
 pub mod Begin
 pub mod Constant
+pub mod Decoded
 pub mod EmptySections
 pub mod Faults
 pub mod FaultyModule

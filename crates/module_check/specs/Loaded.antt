@@ -1,6 +1,6 @@
 -- What a loaded module says of itself, its bodies and its constant expressions (the crate's own).
 use Rattle.std.specs.Prelude.{◌≡◌, ℕ, ◌+◌, ◌-◌, ◌^◌, ◌≤◌, ◌<◌, List, Option, Some, None, length}
-use Rattle.std.specs.Prelude.{false, min, map, slice_get}
+use Rattle.std.specs.Prelude.{min, map, slice_get}
 use Rattle.binary_modules.specs.declared.initializers.ConstantExpression.{ConstantExpression}
 use Rattle.binary_modules.specs.ContentsRead.{bytes_of as bytes_left}
 use Rattle.binary_modules.specs.Kept.{told}
@@ -13,9 +13,8 @@ use Rattle.module_rules.specs.Declarations.{Declarations, declarations_of}
 use Rattle.module_rules.specs.Features.{operator_features}
 use Rattle.module_rules.specs.Lookup.{lookup_lists}
 use Rattle.module_rules.specs.Validity.{IsValidModule}
-use Rattle.module_rules.specs.Within.{IsWithin, is_within}
+use Rattle.module_rules.specs.Within.{IsWithin}
 use Rattle.module_rules.specs.declared.features.ModuleFeatures.{ModuleFeatures}
-use Rattle.module_rules.specs.declared.module.Place.{Place}
 use Rattle.validate_resources.specs.Context.{ModuleContext}
 use Rattle.validate_resources.specs.Kept.{declared_lists}
 use Rattle.validate_resources.specs.Lists.{context_of, module_of}
@@ -133,23 +132,8 @@ pub record IsAcceptedModule (m : LoadedModule) : Type 0 where
 -- limits of this implementation.
 pub record IsValid (m : LoadedModule) : Type 0 where
   pub is_module :
-      ∥ IsModule (bytes_of m) (declarations m) (bytes_left m.bodies.items) (map told m.expressions.items) ∥₁
+      IsModule (bytes_of m) (declarations m) (bytes_left m.bodies.items) (map told m.expressions.items)
   pub declarations_valid : IsValidModule (features_of m) (declarations m)
   pub declarations_within : IsWithin (declarations m)
   pub is_lookup : module_of (lookup_lists (declarations m)) ≡ Some (declared_lists m.lists)
   pub code_safe : IsSafeModule m
-
--- These bytes are those of a module that is past a limit of this implementation by what it declares.
-pub record AreTooLarge (bytes : List ℕ) : Type 0 where
-  pub declared : Declarations
-  pub bodies : List (List ℕ)
-  pub expressions : List (Place × List ℕ)
-  pub is_module : ∥ IsModule bytes declared bodies expressions ∥₁
-  pub is_past : is_within declared ≡ false
-
--- These bytes are those of a valid module, under these proposals.
-pub record AreValidModule (features : ModuleFeatures) (bytes : List ℕ) : Type 0 where
-  pub loaded : LoadedModule
-  pub of_bytes : bytes_of loaded ≡ bytes
-  pub under : features_of loaded ≡ features
-  pub is_valid : IsValid loaded

@@ -31,7 +31,7 @@ pub record AreTypesIn (d : LoadedDeclarations) (types : CanonicalTypes) : Type 0
 pub record DeclaresInModule (bytes : List ℕ) (d : Declarations) : Type 0 where
   pub bodies : List (List ℕ)
   pub expressions : List (Place × List ℕ)
-  pub is_module : ∥ IsModule bytes d bodies expressions ∥₁
+  pub is_module : IsModule bytes d bodies expressions
 
 -- With empty bodies and data segments behind them, as many as are needed, the bytes are those of a module that
 -- declares this.

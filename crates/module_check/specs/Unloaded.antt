@@ -1,22 +1,12 @@
 -- What bytes are that aren't loaded (the crate's own).
-use Rattle.std.specs.Prelude.{◌≡◌, ◌⊎◌, ℕ, false, List, ◌++◌}
-use Rattle.binary_modules.specs.Modules.{IsModule, IsNoModule}
-use Rattle.module_rules.specs.Declarations.{Declarations}
-use Rattle.module_rules.specs.Validity.{is_valid_module}
+use Rattle.std.specs.Prelude.{◌≡◌, ◌⊎◌, ℕ, List, ◌++◌}
+use Rattle.binary_modules.specs.Modules.{IsNoModule}
 use Rattle.module_rules.specs.declared.features.ModuleFeatures.{ModuleFeatures}
-use Rattle.module_rules.specs.declared.module.Place.{Place}
+use Rattle.module_check.specs.Decoded.{DeclareInvalid}
 use Rattle.module_check.specs.EmptySections.{sections_behind}
 use Rattle.module_check.specs.FaultyModule.{HasInvalid, HasMalformed}
-use Rattle.module_check.specs.Loaded.{bytes_of, features_of, AreTooLarge}
+use Rattle.module_check.specs.Loaded.{bytes_of, features_of}
 use Rattle.module_check.specs.declared.loaded.LoadedModule.{LoadedModule}
-
--- These bytes are those of a module, and what it declares isn't valid under these proposals.
-pub record DeclareInvalid (features : ModuleFeatures) (bytes : List ℕ) : Type 0 where
-  pub declared : Declarations
-  pub bodies : List (List ℕ)
-  pub expressions : List (Place × List ℕ)
-  pub is_module : ∥ IsModule bytes declared bodies expressions ∥₁
-  pub is_invalid : is_valid_module features declared ≡ false
 
 -- they are no module's, or what they declare isn't valid
 abbrev pub AreUnloaded : ModuleFeatures → List ℕ → Type 0

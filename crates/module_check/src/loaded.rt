@@ -1,6 +1,6 @@
 //! A module whose bodies are to be checked.
 
-ghost use Rattle.std.specs.Prelude.{◌≡◌, ◌≢◌, ◌⊎◌, ◌≤◌, ◌<◌, ◌+◌, ◌-◌, ◌^◌, ℕ, true, false, drop, length, map, slice_get, Some, None, IfSome, OnSome, IfOk, IfErr};
+ghost use Rattle.std.specs.Prelude.{◌≡◌, ◌≢◌, ◌⊎◌, ◌≤◌, ◌<◌, ◌+◌, ◌-◌, ◌^◌, ℕ, true, false, drop, length, map, slice_get, Some, None, IfSome, OnSome, IfOk, IfErr, OnOk};
 ghost use Rattle.binary_modules.specs.ContentsRead.{bytes_of as bytes_left};
 ghost use Rattle.binary_modules.specs.Kept.{told};
 ghost use Rattle.binary_modules.specs.Modules.{IsModule, IsNoModule};
@@ -44,7 +44,7 @@ pub struct LoadedModule<'a> {
     bodies: Vec<BinaryReader<'a>>,
     expressions: Vec<ConstantExpression<'a>>,
     names: Option<BinaryReader<'a>>,
-    ghost read: { ∥ IsModule bytes.now (declarations_of declared) (bytes_left bodies.items) (map told expressions.items) ∥₁ },
+    ghost read: { IsModule bytes.now (declarations_of declared) (bytes_left bodies.items) (map told expressions.items) },
     ghost valid: { IsValidModule features (declarations_of declared) },
     ghost within: { IsWithin (declarations_of declared) },
     ghost counted: { declared.imports.functions + length bodies.items ≡ length declared.functions.items },
@@ -55,7 +55,8 @@ impl<'a> LoadedModule<'a> {
     ghost use Rattle.binary_operators.specs.declared.types.CanonicalTypes.{CanonicalTypes};
     ghost use Rattle.module_check.specs.Constant.{may_stand};
     ghost use Rattle.module_check.specs.Loaded.{declarations, features_of, bytes_of, declared};
-    ghost use Rattle.module_check.specs.Loaded.{body_at, AreTypesOf, AreTooLarge};
+    ghost use Rattle.module_check.specs.Loaded.{body_at, AreTypesOf};
+    ghost use Rattle.module_check.specs.Decoded.{AreTooLarge, DeclareInvalid, DeclareValid};
     ghost use Rattle.module_check.specs.Accepted.{IsAcceptedCode};
     ghost use Rattle.module_check.specs.Unbodied.{DeclaresInModule, declared_by, features_of as features_alone};
     ghost use Rattle.module_check.specs.Loaded.{IsAcceptedFunction, IsAcceptedExpression};
@@ -66,7 +67,7 @@ impl<'a> LoadedModule<'a> {
     ghost use Rattle.module_check.specs.Faults.{IsMalformedCode, IsRefusedCode};
     ghost use Rattle.module_check.specs.FaultyModule.{IsMalformedFunction, IsRefusedFunction};
     ghost use Rattle.module_check.specs.FaultyModule.{IsMalformedExpression, IsRefusedExpression};
-    ghost use Rattle.module_check.specs.Unloaded.{AreUnloaded, DeclareInvalid};
+    ghost use Rattle.module_check.specs.Unloaded.{AreUnloaded};
     ghost use Rattle.module_check.specs.declared.verdict.Verdict.TheVariants.{Refused, Malformed};
     ghost use Rattle.validate_operators.specs.Begin.{CannotStart};
     ghost use Rattle.module_rules.specs.Features.{operator_features};
@@ -76,7 +77,8 @@ impl<'a> LoadedModule<'a> {
     /// proposals, and within the limits. A verdict on it is never `Accepted`. It is `Malformed` if the bytes aren't those
     /// of a module, `Refused` if what it declares isn't valid, or a constant expression has a vector operator other than
     /// `v128.const` and the proposal of these is off, `NotCovered` with the offset of that operator if it is on, or
-    /// `OutOfMemory`. What is past a limit is told apart.
+    /// `OutOfMemory`. What is past a limit is told apart. So it loads exactly the bytes whose declarations are valid and
+    /// within the limits, unless memory runs out.
     pub fn new(
         alloc: Global,
         bytes: &'a [u8],
@@ -84,6 +86,8 @@ impl<'a> LoadedModule<'a> {
     ) -> Result<LoadedModule<'a>, LoadRefusal>
         ensures bytes { IfOk result (λ m. bytes_of m ≡ bytes.now) }
         ensures features { IfOk result (λ m. features_of m ≡ features) }
+        ensures valid { OnOk result (DeclareValid features bytes.now) }
+        ensures complete { IfErr result (λ refusal. DeclareValid features bytes.now → refusal ≡ Judged OutOfMemory) }
         ensures refused { IfErr result (λ refusal. refusal ≢ Judged Accepted) }
         ensures proposal { IfErr result (λ refusal. (offset : ℕ) → refusal ≡ Judged (NotCovered offset)
             → has (operator_features features) simd ≡ true) }
@@ -113,8 +117,8 @@ impl<'a> LoadedModule<'a> {
         features: ModuleFeatures,
         module: Module<'a>,
     ) -> Result<LoadedModule<'a>, LoadRefusal>
-        requires read { ∥ IsModule bytes.now (declarations_of module.declared) (bytes_left module.bodies.items)
-            (map told module.expressions.items) ∥₁ }
+        requires read { IsModule bytes.now (declarations_of module.declared) (bytes_left module.bodies.items)
+            (map told module.expressions.items) }
         requires counted { module.declared.imports.functions + length module.bodies.items
             ≡ length module.declared.functions.items }
         ensures bytes { IfOk result (λ m. bytes_of m ≡ bytes.now) }

@@ -160,7 +160,7 @@ impl LoadedDeclarations {
     ghost use Rattle.module_check.specs.Unbodied.{BeginsModule, DeclaresInModule, declared_by, features_of, context_in};
     ghost use Rattle.module_check.specs.Unbodied.{AreTypesIn};
     ghost use Rattle.binary_modules.specs.Modules.{IsNoModule};
-    ghost use Rattle.module_check.specs.Loaded.{AreTooLarge};
+    ghost use Rattle.module_check.specs.Decoded.{AreTooLarge};
     ghost use Rattle.module_check.specs.Unloaded.{AreUnloaded, Completed};
     ghost use Rattle.module_check.specs.declared.verdict.Verdict.TheVariants.{Refused, Malformed, NotCovered};
     ghost use Rattle.validate_types.specs.declared.error.Error.{Error};

@@ -2,7 +2,8 @@
 use Rattle.std.proofs.Common.{◌≡◌, ◌≢◌, ◌⊎◌, ◌<◌, ℕ, inl, inr, refl, sym, ◌∙◌, subst, Result, Ok, Err, IfOk, List}
 use Rattle.module_check.specs.FaultyModule.{IsInvalidAt, IsMalformedAt}
 use Rattle.module_check.specs.Items.{item_count}
-use Rattle.module_check.specs.Loaded.{bytes_of, features_of, AreTooLarge}
+use Rattle.module_check.specs.Decoded.{AreTooLarge}
+use Rattle.module_check.specs.Loaded.{bytes_of, features_of}
 use Rattle.module_check.specs.Outcomes.{HasFound, IsFoundAt}
 use Rattle.module_check.specs.UncoveredModule.{AreUncovered, HasVectorIn, IsUncoveredAt}
 use Rattle.module_check.specs.Unloaded.{AreInvalid, AreUnloaded}

@@ -2,7 +2,8 @@
 
 ghost use Rattle.std.specs.Prelude.{◌≡◌, ◌≢◌, ◌⊎◌, IfOk, OnOk};
 ghost use Rattle.module_check.specs.Items.{AreSafeBelow, IsSafeAt, item_count};
-ghost use Rattle.module_check.specs.Loaded.{AreTooLarge, AreValidModule, IsValid};
+ghost use Rattle.module_check.specs.Decoded.{AreNoValidModule, AreTooLarge, AreValidModule};
+ghost use Rattle.module_check.specs.Loaded.{IsValid};
 ghost use Rattle.module_check.specs.Outcomes.{HasFound, IsFoundAt};
 ghost use Rattle.module_check.specs.UncoveredModule.{AreUncovered};
 ghost use Rattle.module_check.specs.Unloaded.{AreInvalid};
@@ -342,6 +343,8 @@ pub fn check_bytes<W: Write>(
     bytes: &[u8],
 ) -> io::Result<Outcome>
     ensures valid { IfOk result (λ outcome. outcome ≡ Valid → AreValidModule options.entry.features bytes.now) }
+    ensures refused { IfOk result (λ outcome. outcome ≡ Invalid
+        → AreNoValidModule options.entry.features bytes.now) }
     ensures invalid { IfOk result (λ outcome. outcome ≡ Invalid → AreInvalid options.entry.features bytes.now) }
     ensures uncovered { IfOk result (λ outcome. outcome ≡ NotCovered
         → AreUncovered options.entry.features bytes.now) }

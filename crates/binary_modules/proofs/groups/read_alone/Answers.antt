@@ -1,5 +1,5 @@
 -- The type is read where none of its group can be named.
-use Rattle.std.proofs.Common.{rules, ap, ◌∙◌, ◌≡◌, ◌-◌, ◌^◌}
+use Rattle.std.proofs.Common.{rules, ap, ◌≡◌, ◌-◌, ◌^◌}
 use Rattle.binary_operators.specs.declared.types.GroupNames.TheVariants.{Indices}
 use Rattle.binary_modules.proofs.Anyhow.{reads_anyhow}
 use Rattle.binary_modules.proofs.groups.read_alone.Goals as goal

@@ -2,7 +2,7 @@
 use Rattle.std.proofs.Common.{rules, ap, subst, sym, refl, ◌∙◌, ◌≡◌, ◌+◌, ◌<◌, ◌++◌, ◌∷◌, [], length, map, Some, ℕ}
 use Rattle.std.proofs.lemmas.List.{length_push}
 use Rattle.std.proofs.lemmas.Result.{err_from_is_err_and}
-use Rattle.binary_modules.specs.Groups.{written_shape}
+use Rattle.binary_modules.specs.GroupsRead.{written_shape}
 use Rattle.binary_modules.proofs.Grouped.{one_more_group}
 use Rattle.binary_modules.proofs.TypesUnique.{stopped_types, uncounted_types}
 use Rattle.binary_modules.proofs.groups.read_types.Goals as goal

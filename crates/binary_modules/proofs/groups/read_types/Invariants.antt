@@ -1,6 +1,7 @@
 -- As many groups were read as the loop has turned.
 use Rattle.std.proofs.Common.{◌≡◌, List, [], length}
-use Rattle.binary_modules.specs.Groups.{Group, AreGroups}
+use Rattle.binary_modules.specs.Groups.{Group}
+use Rattle.binary_modules.specs.GroupsRead.{AreGroups}
 use Rattle.binary_modules.specs.Read.{HasRead}
 use Rattle.binary_modules.proofs.groups.read_types.Given as goal
 

@@ -1,10 +1,11 @@
 -- No sections, a section more, and all of them, or none that can be next.
-use Rattle.std.proofs.Common.{rules, arith, ap, subst, sym, refl, ◌∙◌, ◌≡◌, ℕ, List, [], ◌++◌, append-nil, length, ◌+◌}
+use Rattle.std.proofs.Common.{rules, arith, ap, subst, sym, refl, ◌∙◌, ◌≡◌, ℕ, List, [], ◌++◌, append-nil, length}
 use Rattle.std.specs.List.{list_all}
 use Rattle.std.proofs.lemmas.List.{nil_from_length}
 use Rattle.std.proofs.lemmas.Result.{err_from_is_err_and}
 use Rattle.binary_modules.specs.SectionList.{told_section, told_sections}
-use Rattle.binary_modules.specs.Sections.{AreSectionsIn, are_in_order, section_ids, is_named}
+use Rattle.binary_modules.specs.SectionsRead.{AreSectionsIn}
+use Rattle.binary_modules.specs.Sections.{are_in_order, section_ids, is_named}
 use Rattle.binary_modules.specs.declared.section_list.ContentSection.{ContentSection}
 use Rattle.binary_modules.proofs.Once.{not_so}
 use Rattle.binary_modules.proofs.SectionsLess.{AreAll, section_shorter, all_behind, none_next}

@@ -3,7 +3,8 @@
 use Rattle.std.proofs.Common.{◌≡◌, ◌≤◌, ◌+◌, ◌++◌, List, length}
 use Rattle.std.specs.List.{list_all}
 use Rattle.binary_modules.specs.SectionList.{told_sections}
-use Rattle.binary_modules.specs.Sections.{Section, AreSectionsIn, are_in_order, section_ids, is_named}
+use Rattle.binary_modules.specs.Sections.{Section, are_in_order, section_ids, is_named}
+use Rattle.binary_modules.specs.SectionsRead.{AreSectionsIn}
 use Rattle.binary_modules.proofs.SectionsLess.{AreAll}
 use Rattle.binary_modules.proofs.section_list.read_sections.Given as goal
 

@@ -1,16 +1,18 @@
 -- The parts of a module make it.
 use Rattle.std.proofs.Common.{zero-add, ap, sym, refl, ◌∙◌, ◌≡◌, ◌++◌, length, append_assoc}
-use Rattle.std.specs.Prelude.{flat_map, option_map, min, ◌^◌, ◌-◌}
+use Rattle.std.specs.Prelude.{flat_map, map, option_map, min, ◌^◌, ◌-◌}
 use Rattle.std.proofs.lemmas.List.{length-map}
 use Rattle.std.proofs.lemmas.Result.{err_from_is_err_and}
 use Rattle.binary_operators.specs.declared.types.GroupNames.TheVariants.{Indices}
 use Rattle.binary_modules.specs.ContentsRead.{bytes_of}
+use Rattle.binary_modules.specs.Groups.{types_of, canonical_of}
 use Rattle.binary_modules.specs.Items.{placed, declared_items}
-use Rattle.binary_modules.specs.Modules.{Contents, expressions_of, table_in, global_in}
+use Rattle.binary_modules.specs.Modules.{Contents, expressions_of, group_of, table_in, global_in}
 use Rattle.binary_modules.specs.SectionList.{told_sections}
 use Rattle.binary_modules.specs.declared.contents.SectionNumber.{SectionNumber}
 use Rattle.binary_modules.proofs.Added.{adds_both}
-use Rattle.binary_modules.proofs.NoModule.{by_types, functions_counted}
+use Rattle.binary_modules.proofs.Decoded.{by_parts, module_is, no_module}
+use Rattle.binary_modules.proofs.NoModule.{functions_counted}
 use Rattle.binary_modules.proofs.WholeParts.{list_length, bodies_each, counted_by, are_imported, all_expressions, all_functions}
 use Rattle.binary_modules.proofs.whole.read_contents.Goals as goal
 
@@ -60,7 +62,7 @@ returns-clause-read c =
     bodies_each c.in_ok-found.found.imports.functions (length uses.bodies.items) (length after.functions.items) before.functions.items after.functions.items (length own.functions)
     c.in_ok-uses.ensures.counted counts.functions refl
     (list_length _ _ 3 (told_sections c.args.sections.now) before.functions.items after.functions.items own.functions own.are_functions) in
-    record {
+    module_is (told_sections c.args.sections.now) _ _ _ (record {
       are_types = c.in_ok-types.ensures.read;
       types = c.new-canonical.result;
       are_all_types = record {
@@ -104,33 +106,38 @@ returns-clause-read c =
       };
       are_bodies = refl;
       are_expressions = all_expressions v0 v2 _ (expressions_of contents) c.new-initializers.ensures.expressions added same;
-    }
+    })
 
 pub returns-in_err-types-clause-refused : goal.returns-in_err-types-clause-refused
 returns-in_err-types-clause-refused c =
     let p = err_from_is_err_and c.from_residual.result c.from_residual.ensures.1 in
-    rw (p.1, p.2) (λ short d bodies expressions h. c.in_err-types.ensures.refused short d.types d.canonical d.groups h.are_types)
+    rw (p.1, p.2) (λ short.
+    no_module (told_sections c.args.sections.now)
+    (λ h. c.in_err-types.ensures.refused short (types_of h.groups) (canonical_of h.groups) (map group_of h.groups) h.are_types))
 
 pub returns-in_err-found-clause-refused : goal.returns-in_err-found-clause-refused
 returns-in_err-found-clause-refused c =
     let p = err_from_is_err_and c.from_residual-in_err-found.result c.from_residual-in_err-found.ensures.1 in
-    rw (p.1, p.2) (λ short d bodies expressions h.
-    c.in_err-found.ensures.refused short h.contents
-    (by_types (told_sections c.args.sections.now) c.in_ok-types.types.types.items c.in_ok-types.types.canonical.items c.in_ok-types.types.groups.items c.new-canonical.result d bodies expressions c.in_ok-types.ensures.read
+    rw (p.1, p.2) (λ short.
+    no_module (told_sections c.args.sections.now)
+    (λ h. c.in_err-found.ensures.refused short h.contents
+    (by_parts (told_sections c.args.sections.now) c.in_ok-types.types.types.items c.in_ok-types.types.canonical.items c.in_ok-types.types.groups.items c.new-canonical.result c.in_ok-types.ensures.read
     (record {
       are_named = ap (λ t. t.canonical.now) c.new-canonical.ensures ∙ c.deref.ensures.value;
       are_behind =
           ap (λ t. t.group) c.new-canonical.ensures
           ∙ ap (λ l. Indices (min (length l) (2 ^ 32 - 1))) c.deref.ensures.value;
-    }) h))
+    }) h)))
 
 pub returns-in_err-uses-clause-refused : goal.returns-in_err-uses-clause-refused
 returns-in_err-uses-clause-refused c =
     let p = err_from_is_err_and c.from_residual-in_err-uses.result c.from_residual-in_err-uses.ensures.1 in
-    rw (p.1, p.2) (λ short d bodies expressions h.
+    rw (p.1, p.2) (λ short.
+    no_module (told_sections c.args.sections.now)
+    (λ h.
     let read = c.in_ok-found.ensures.read in
     let same =
-    by_types (told_sections c.args.sections.now) c.in_ok-types.types.types.items c.in_ok-types.types.canonical.items c.in_ok-types.types.groups.items c.new-canonical.result d bodies expressions c.in_ok-types.ensures.read
+    by_parts (told_sections c.args.sections.now) c.in_ok-types.types.types.items c.in_ok-types.types.canonical.items c.in_ok-types.types.groups.items c.new-canonical.result c.in_ok-types.ensures.read
     (record {
       are_named = ap (λ t. t.canonical.now) c.new-canonical.ensures ∙ c.deref.ensures.value;
       are_behind =
@@ -139,4 +146,4 @@ returns-in_err-uses-clause-refused c =
     }) h in
     c.in_err-uses.ensures.refused short h.contents
     (functions_counted c.new-canonical.result (told_sections c.args.sections.now) read.0.functions.items c.in_ok-found.found.items.functions.items
-    read.3.functions c.in_ok-found.found.imports.functions h.contents read.3.are_functions read.2.functions same) same)
+    read.3.functions c.in_ok-found.found.imports.functions h.contents read.3.are_functions read.2.functions same) same))

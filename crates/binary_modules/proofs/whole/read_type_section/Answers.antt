@@ -1,7 +1,7 @@
 -- There are no such types, or others behind them.
 use Rattle.std.proofs.Common.{List, ℕ, [], subst, sym}
 use Rattle.std.proofs.lemmas.Result.{err_from_is_err_and}
-use Rattle.binary_modules.specs.Groups.{AreTypes}
+use Rattle.binary_modules.specs.GroupsRead.{AreTypes}
 use Rattle.binary_modules.proofs.NoModule.{all_of_types}
 use Rattle.binary_modules.proofs.whole.read_type_section.Goals as goal
 

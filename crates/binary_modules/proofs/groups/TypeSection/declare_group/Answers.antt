@@ -3,7 +3,7 @@ use Rattle.std.proofs.Common.{ap, subst, sym, ◌∙◌, ◌≡◌, ℕ, List}
 use Rattle.std.proofs.lemmas.Result.{err_from_is_err_and}
 use Rattle.binary_operators.specs.declared.types.GroupNames.TheVariants.{Places, Indices}
 use Rattle.validate_types.specs.declared.types.SubType.{SubType}
-use Rattle.binary_modules.specs.Groups.{StandsFor}
+use Rattle.binary_modules.specs.GroupsRead.{StandsFor}
 use Rattle.binary_modules.specs.Mixed.{mix_types}
 use Rattle.binary_modules.specs.Read.{HasTypes, HasNoTypes, IsMixed, Keeps}
 use Rattle.binary_modules.proofs.Grouped.{both_ok, read_twice}

@@ -1,5 +1,5 @@
 -- The types are those of one type alone, or of any group.
-use Rattle.std.proofs.Common.{rules, ap, subst, subst₂, sym, ◌∙◌, ◌≡◌, ℕ, List}
+use Rattle.std.proofs.Common.{rules, ap, subst, subst₂, sym, ◌≡◌, ℕ, List}
 use Rattle.std.proofs.lemmas.Result.{on_ok_weaker}
 use Rattle.binary_operators.specs.Unread.{Unread}
 use Rattle.binary_modules.specs.Read.{HasNoRolled, HasReadTypes, ReadsAnyhow}

@@ -6,7 +6,8 @@ use Rattle.std.proofs.lemmas.Result.{err_from_is_err_and}
 use Rattle.binary_operators.specs.declared.types.GroupNames.TheVariants.{Places, Indices}
 use Rattle.module_rules.specs.declared.items.RecGroup.{RecGroup}
 use Rattle.binary_modules.specs.SubTypes.{sub_type}
-use Rattle.binary_modules.specs.Groups.{Group, StandsFor, canonical_of, shape, written_shape}
+use Rattle.binary_modules.specs.Groups.{Group, canonical_of}
+use Rattle.binary_modules.specs.GroupsRead.{StandsFor, shape, written_shape}
 use Rattle.binary_modules.proofs.Grouped.{so_many_length, has_group, more_types, more_canonical}
 use Rattle.binary_modules.proofs.TypesUnique.{typeless_group, uncounted_group, unmarked_group}
 use Rattle.binary_modules.proofs.groups.TypeSection.read_group.Goals as goal

@@ -2,7 +2,7 @@
 use Rattle.std.proofs.Common.{◌≡◌, ℕ, Bool, false, List, ◌∷◌, [], length, Some, ap, arith, length-append}
 use Rattle.validate_operators.proofs.Listed.{visited}
 use Rattle.validate_operators.specs.Runs.{body_before}
-use Rattle.validate_operators.specs.Start.{state}
+use Rattle.validate_operators.specs.Validator.{state}
 use Rattle.wasmparser_validate.proofs.Accepted.{sound_accepted, accepts}
 use Rattle.wasmparser_validate.specs.Functions.{state_from, function_state, IsSound}
 use Rattle.validate_stacks.specs.Pops.{IsKept}

@@ -1,6 +1,6 @@
 -- What a function in progress keeps, and what that stands for (the crate's own).
 use Rattle.std.specs.Prelude.{◌≡◌, ◌≢◌, true, false, []}
-use Rattle.validate_operators.specs.Start.{state}
+use Rattle.validate_operators.specs.Validator.{state}
 use Rattle.wasmparser_validate.specs.Functions.{function_state, IsSound}
 use Rattle.c_api.specs.Functions.{InProgress}
 use Rattle.c_api.specs.Modules.{module_of, context_in}

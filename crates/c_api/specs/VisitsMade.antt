@@ -1,6 +1,6 @@
 -- What becomes of a body at a visit (the crate's own).
 use Rattle.std.specs.Prelude.{◌≡◌, ℕ, List, [], ◌∷◌, ◌++◌, Ok}
-use Rattle.validate_operators.specs.Start.{state}
+use Rattle.validate_operators.specs.Validator.{state}
 use Rattle.validate_stacks.specs.Visits.{Meets}
 use Rattle.validate_visit.specs.declared.op.Op.{Op}
 use Rattle.validation_rules.specs.Operators.{operator}

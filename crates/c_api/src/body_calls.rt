@@ -10,7 +10,7 @@ ghost use Rattle.c_api.specs.Calls.{OnHeld, OnWhole, HasNoBody, HasNoModule};
 ghost use Rattle.c_api.specs.FunctionCalls.{OnFunction};
 ghost use Rattle.c_api.specs.Bodies.{IsBodyBegun, StartsBody, StartsWithLocals};
 ghost use Rattle.c_api.specs.Modules.{context_in, module_of};
-ghost use Rattle.validate_operators.specs.Start.{state};
+ghost use Rattle.validate_operators.specs.Validator.{state};
 ghost use Rattle.wasmparser_validate.specs.Functions.{function_from};
 ghost use Rattle.validate_resources.specs.Kept.{declared_lists};
 ghost use Rattle.validate_resources.specs.Lists.{context_of};

@@ -9,7 +9,8 @@ ghost use Rattle.c_api.specs.Modules.{module_of, context_in, features_in, AreTyp
 ghost use Rattle.c_api.specs.Shown.{shown_type, shown_operand, shown_frame};
 ghost use Rattle.validate_operators.specs.Begin.{CannotStart};
 ghost use Rattle.validate_operators.specs.Runs.{IsAcceptedBody, IsSafe};
-ghost use Rattle.validate_operators.specs.Start.{state, DefinesLocals, CannotDefine};
+ghost use Rattle.validate_operators.specs.Start.{DefinesLocals, CannotDefine};
+ghost use Rattle.validate_operators.specs.Validator.{state};
 ghost use Rattle.wasmparser_validate.specs.Functions.{function_from, body_state, Fails};
 ghost use Rattle.validate_stacks.specs.State.{IsStarting};
 ghost use Rattle.validate_stacks.specs.Steps.{type_at_depth, frame_at};

@@ -6,7 +6,7 @@ ghost use Rattle.binary_operators.specs.declared.error.Cause.TheVariants.{OutOfM
 ghost use Rattle.module_check.specs.Refusals.{IsRefusal, IsVector};
 ghost use Rattle.c_api.specs.Modules.{context_in};
 ghost use Rattle.c_api.specs.Operators.{IsOperatorOf, BeginsWithNone, HasNoRow};
-ghost use Rattle.validate_operators.specs.Start.{state, stacks_of};
+ghost use Rattle.validate_operators.specs.Validator.{state, stacks_of};
 ghost use Rattle.validate_resources.specs.Kept.{declared_lists};
 ghost use Rattle.validate_resources.specs.Lists.{context_of};
 ghost use Rattle.validate_stacks.specs.Pops.{IsKept};

@@ -1,7 +1,7 @@
 //! The check of one body.
 
 ghost use Rattle.std.specs.Prelude.{◌≡◌, ◌≢◌, ◌⊎◌, ℕ, true, OnOk, IfErr};
-ghost use Rattle.validate_operators.specs.Start.{state};
+ghost use Rattle.validate_operators.specs.Validator.{state};
 ghost use Rattle.validate_stacks.specs.State.{IsStarting};
 ghost use Rattle.validate_operators.specs.Begin.{IsBodyStart, CannotStart};
 ghost use Rattle.module_check.specs.Accepted.{IsAcceptedCode};

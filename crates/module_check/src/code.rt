@@ -9,7 +9,7 @@ ghost use Rattle.binary_operators.specs.Vectors.{BeginVector};
 ghost use Rattle.binary_operators.specs.declared.error.Cause.TheVariants.{OutOfMemory, VectorOperator};
 ghost use Rattle.module_check.specs.Begin.{DefinesRead};
 ghost use Rattle.module_check.specs.Refusals.{IsVector};
-ghost use Rattle.validate_operators.specs.Start.{state};
+ghost use Rattle.validate_operators.specs.Validator.{state};
 ghost use Rattle.validate_stacks.specs.State.{IsStarting};
 
 use crate::operators::{define_locals, read_group};

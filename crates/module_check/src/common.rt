@@ -6,7 +6,7 @@ ghost use Rattle.validate_visit.specs.declared.numeric.IntegerBinaryOp.{IntegerB
 ghost use Rattle.validate_visit.specs.declared.numeric.IntegerComparisonOp.{IntegerComparisonOp};
 ghost use Rattle.validate_visit.specs.declared.op.NumericOp.{NumericOp};
 ghost use Rattle.validate_visit.specs.declared.op.Op.{Op};
-ghost use Rattle.validate_operators.specs.Start.{stacks_of};
+ghost use Rattle.validate_operators.specs.Validator.{stacks_of};
 ghost use Rattle.validate_stacks.specs.Visits.{MayVisit};
 ghost use Rattle.module_check.specs.Turns.{Passes, PassesBytes};
 ghost use Rattle.module_check.specs.FirstBytes.{kinds, BeginLike};

@@ -7,7 +7,7 @@ ghost use Rattle.validate_stacks.specs.State.{BodyState, IsStarting, body_contex
 ghost use Rattle.validate_stacks.specs.Visits.{step_body, MayVisit, Meets};
 ghost use Rattle.validation_rules.specs.Static.{RowFails};
 ghost use Rattle.validation_rules.specs.Operators.{operator};
-ghost use Rattle.validate_operators.specs.Start.{state, stacks_of};
+ghost use Rattle.validate_operators.specs.Validator.{state, stacks_of};
 ghost use Rattle.module_check.specs.Begin.{DefinesGroup, DefinesRead};
 ghost use Rattle.module_check.specs.Constant.{may_stand};
 ghost use Rattle.module_check.specs.Faults.{IsFault, ReachFault};

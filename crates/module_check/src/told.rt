@@ -7,7 +7,7 @@ ghost use Rattle.binary_operators.specs.Forms.{from, forms};
 ghost use Rattle.binary_operators.specs.Unplaced.{unplaced};
 ghost use Rattle.binary_operators.specs.declared.forms.Form.TheVariants.{Access, Conversion, Index, Numeric, I32, I64, F32, F64};
 ghost use Rattle.validate_visit.specs.declared.op.Op.TheVariants.{Control};
-ghost use Rattle.validate_operators.specs.Start.{stacks_of};
+ghost use Rattle.validate_operators.specs.Validator.{stacks_of};
 ghost use Rattle.validate_stacks.specs.Visits.{MayVisit};
 ghost use Rattle.module_check.specs.Turns.{Passes};
 

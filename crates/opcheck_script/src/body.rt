@@ -5,7 +5,7 @@ ghost use Rattle.std.specs.List.{list_any};
 ghost use Rattle.validate_visit.specs.Order.{is_well_ordered_list};
 ghost use Rattle.validate_stacks.specs.State.{IsStarting, body_context};
 ghost use Rattle.validate_operators.specs.Runs.{without_offsets, IsSafe};
-ghost use Rattle.validate_operators.specs.Start.{state};
+ghost use Rattle.validate_operators.specs.Validator.{state};
 ghost use Rattle.wasmparser_validate.specs.Functions.{function_from, Accepts, Refuses};
 ghost use Rattle.opcheck_script.specs.Attempts.{IsThere, IsAnswer, EndsRun, RunsEach, accepted_of, accepted_at};
 ghost use Rattle.script_reader.specs.Written.{may_all_be_attempted};

@@ -1,7 +1,7 @@
 //! Bodies of scripts, checked by the validator's own calls.
 
 ghost use Rattle.std.specs.Prelude.{◌≡◌, None};
-ghost use Rattle.validate_operators.specs.Start.{state, stacks_of};
+ghost use Rattle.validate_operators.specs.Validator.{state, stacks_of};
 ghost use Rattle.validate_stacks.specs.State.{IsStarting, IsValidBody};
 ghost use Rattle.validate_stacks.specs.Visits.{MayVisit};
 

@@ -1,6 +1,6 @@
 //! The types of operands that `operands_before` answers at a place of an accepted script.
 
-ghost use Rattle.validate_operators.specs.Start.{state};
+ghost use Rattle.validate_operators.specs.Validator.{state};
 ghost use Rattle.validate_stacks.specs.State.{IsStarting};
 
 use crate::snapshot::add_type;

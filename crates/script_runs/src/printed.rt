@@ -2,7 +2,7 @@
 
 ghost use Rattle.std.specs.Prelude.{◌≡◌, true, IfOk};
 ghost use Rattle.validate_operators.specs.Runs.{without_offsets};
-ghost use Rattle.validate_operators.specs.Start.{state};
+ghost use Rattle.validate_operators.specs.Validator.{state};
 ghost use Rattle.validate_stacks.specs.State.{IsStarting};
 ghost use Rattle.validate_visit.specs.Order.{is_well_ordered_list};
 

@@ -3,7 +3,7 @@
 ghost use Rattle.std.specs.Prelude.{◌≡◌, [], true, None, Ok};
 ghost use Rattle.validate_visit.specs.Order.{is_well_ordered_list};
 ghost use Rattle.validate_operators.specs.Runs.{without_offsets};
-ghost use Rattle.validate_operators.specs.Start.{state, stacks_of};
+ghost use Rattle.validate_operators.specs.Validator.{state, stacks_of};
 ghost use Rattle.validation_rules.specs.Operators.{operator};
 ghost use Rattle.validate_stacks.specs.Visits.{MayVisit, Meets};
 ghost use Rattle.validate_stacks.specs.Pops.{IsKept};

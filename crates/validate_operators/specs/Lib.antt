@@ -2,3 +2,4 @@ pub mod Memory
 pub mod Start
 pub mod Begin
 pub mod Runs
+pub mod Validator

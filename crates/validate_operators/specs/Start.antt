@@ -1,32 +1,16 @@
 -- The states that a validator is made in (the crate's own).
-use Rattle.std.specs.Prelude.{◌≡◌, ◌⊎◌, ℕ, ◌+◌, ◌<◌, ◌≤◌, Bool, true, false, [], Option, Some, None, length, map}
-use Rattle.std.specs.Option.{option_map}
+use Rattle.std.specs.Prelude.{◌≡◌, ◌⊎◌, ℕ, ◌+◌, ◌<◌, ◌≤◌, Bool, true, false, [], ◌++◌, Some, None, length, map}
+use Rattle.std.specs.Prelude.{replicate}
 use Rattle.validate_locals.specs.Limit.{max_locals}
 use Rattle.validate_resources.specs.Context.{ModuleContext, signature_of, signature_at}
-use Rattle.validate_types.specs.Types.{Signature}
+use Rattle.validate_types.specs.Types.{Signature, is_defaultable}
 use Rattle.validate_types.specs.declared.features.WasmFeatures.{WasmFeatures}
 use Rattle.validate_types.specs.declared.types.SubType.{SubType}
 use Rattle.validate_types.specs.declared.types.ValType.{ValType}
 use Rattle.validate_visit.specs.declared.frame.BlockType.{BlockType}
 use Rattle.validate_visit.specs.declared.frame.BlockType.TheVariants.{Val, FuncType}
-use Rattle.validate_visit.specs.declared.frame.FrameKind.{FrameKind}
 use Rattle.validation_rules.specs.Static.{start}
-use Rattle.validate_stacks.specs.Attempts.{Stacked}
 use Rattle.validate_stacks.specs.State.{BodyState}
-use Rattle.validate_stacks.specs.Steps.{label_at, body_with_locals}
-use Rattle.validate_operators.specs.declared.validator.OperatorValidator.{OperatorValidator}
-
--- what a validator stands for, with how far a pending attempt has come
-abbrev pub stacks_of : OperatorValidator → Stacked
-stacks_of v = v.stacks
-
--- what a validator stands for
-abbrev pub state : OperatorValidator → BodyState
-state v = v.stacks.body
-
--- the kind of the innermost open frame
-abbrev pub current_kind : BodyState → Option FrameKind
-current_kind v = option_map (λ (l : BlockType × FrameKind). l.1) (label_at v 0)
 
 -- the start of a function's body: one frame of the function's type, its parameters the locals
 abbrev pub func_start : WasmFeatures → ℕ → Bool → Signature → BodyState
@@ -68,11 +52,18 @@ pub record HasTooManyParams (md : ModuleContext) (index : ℕ) : Type 0 where
   pub is_there : signature_at md index ≡ Some signature
   pub too_many : max_locals < length signature.params
 
+-- with so many more locals of a type, set when the body begins where it has a default value
+abbrev pub with_locals : ℕ → ValType → BodyState → BodyState
+with_locals count ty v = record v {
+  locals = v.locals ++ replicate count ty;
+  set_at_entry = v.set_at_entry ++ replicate count (is_defaultable ty);
+}
+
 -- so many more locals of the canonical type
 pub record DefinesLocals (md : ModuleContext) (count : ℕ) (ty : ValType) (v w : BodyState) : Type 0 where
   pub type : ValType
   pub is_canonical : md.canonical_type v.features ty ≡ Some type
-  pub defines : w ≡ body_with_locals count type v
+  pub defines : w ≡ with_locals count type v
   pub within_limit : length v.locals + count ≤ max_locals
 
 -- the type is refused, or there would be too many locals

@@ -6,7 +6,7 @@ ghost use Rattle.validation_rules.specs.Static.{RowHolds, RowFails};
 ghost use Rattle.validate_stacks.specs.Pops.{IsKept};
 ghost use Rattle.validate_stacks.specs.State.{BodyState, IsValidBody};
 ghost use Rattle.validate_stacks.specs.Visits.{step_body, MayVisit, Meets};
-ghost use Rattle.validate_operators.specs.Start.{state, stacks_of};
+ghost use Rattle.validate_operators.specs.Validator.{state, stacks_of};
 
 use crate::validator::OperatorValidator;
 use validate_resources::WasmModuleResources;

@@ -4,7 +4,7 @@ ghost use Rattle.std.specs.Prelude.{◌≡◌, false, None, IfOk, IfErr, OnOk, O
 ghost use Rattle.validate_stacks.specs.State.{IsStarting};
 ghost use Rattle.validate_stacks.specs.Steps.{empty_body};
 ghost use Rattle.validate_operators.specs.Begin.{IsExpressionStart, IsBodyStart, CannotStart, HasLocals, CannotBegin, without_places};
-ghost use Rattle.validate_operators.specs.Start.{state};
+ghost use Rattle.validate_operators.specs.Validator.{state};
 
 use crate::validator::OperatorValidator;
 use validate_resources::WasmModuleResources;

@@ -6,7 +6,7 @@ ghost use Rattle.validate_visit.specs.Order.{is_well_ordered_list};
 ghost use Rattle.validate_stacks.specs.Pops.{IsKept};
 ghost use Rattle.validate_stacks.specs.State.{IsStarting, IsValidBody};
 ghost use Rattle.validate_operators.specs.Runs.{without_offsets, body_before, AreHeightsAfter, IsRefusedAt, IsSafe};
-ghost use Rattle.validate_operators.specs.Start.{state};
+ghost use Rattle.validate_operators.specs.Validator.{state};
 
 use crate::validator::OperatorValidator;
 use validate_resources::WasmModuleResources;

@@ -11,7 +11,7 @@ ghost use Rattle.validate_stacks.specs.State.{IsValidBody};
 ghost use Rattle.validate_stacks.specs.Steps.{label_at};
 ghost use Rattle.validate_stacks.specs.Visits.{MayVisit, Meets};
 ghost use Rattle.validate_operators.specs.Memory.{TakesNoMemory};
-ghost use Rattle.validate_operators.specs.Start.{state, current_kind, stacks_of};
+ghost use Rattle.validate_operators.specs.Validator.{state, current_kind, stacks_of};
 
 use crate::validator::OperatorValidator;
 use validate_resources::WasmModuleResources;

@@ -15,7 +15,8 @@ ghost use Rattle.validate_visit.specs.declared.op.Op.{Op};
 ghost use Rattle.validation_rules.specs.Operators.{operator};
 ghost use Rattle.validate_resources.specs.Context.{ModuleContext, Valid, signature_at};
 ghost use Rattle.validate_stacks.specs.Steps.{body_with_frame, empty_body, type_at_depth, frame_at, label_at};
-ghost use Rattle.validate_operators.specs.Start.{state, stacks_of, func_start, const_start, IsFuncStart, HasTooManyParams, DefinesLocals, CannotDefine};
+ghost use Rattle.validate_operators.specs.Start.{func_start, const_start, IsFuncStart, HasTooManyParams, DefinesLocals, CannotDefine};
+ghost use Rattle.validate_operators.specs.Validator.{state, stacks_of};
 
 use crate::operator::{check_operator, memory_at_once, operator_at_once, try_operator};
 use validate_locals::Locals;

@@ -5,7 +5,7 @@ ghost use Rattle.std.specs.Prelude.{◌≡◌, None};
 ghost use Rattle.validate_stacks.specs.Pops.{IsKept};
 ghost use Rattle.validate_stacks.specs.State.{IsStarting, IsValidBody};
 ghost use Rattle.validate_stacks.specs.Visits.{MayVisit};
-ghost use Rattle.wasmparser_validate.specs.Start.{state, stacks_of};
+ghost use Rattle.wasmparser_validate.specs.Validator.{state, stacks_of};
 
 use crate::expectations::{expect, expect_memory, expect_same, wants_memory};
 use crate::snapshot::{Seen, Snapshot, add_seen, has_rising_heights};

@@ -6,7 +6,7 @@ ghost use Rattle.validate_stacks.specs.Counted.{pops_of_run};
 ghost use Rattle.validate_stacks.specs.Pops.{IsKept};
 ghost use Rattle.validate_stacks.specs.State.{IsStarting};
 ghost use Rattle.validate_stacks.specs.Visits.{MayVisit};
-ghost use Rattle.wasmparser_validate.specs.Start.{state, stacks_of};
+ghost use Rattle.wasmparser_validate.specs.Validator.{state, stacks_of};
 
 use crate::examples::{Example, expect_example_in};
 use crate::expectations::{ample, expect, expect_error, expect_memory, expect_same, wants_memory};

@@ -2,7 +2,7 @@
 //! the lookup and the validator, for whatever is shown: what drops them is dear to prove.
 
 ghost use Rattle.validate_stacks.specs.State.{IsStarting};
-ghost use Rattle.wasmparser_validate.specs.Start.{state};
+ghost use Rattle.wasmparser_validate.specs.Validator.{state};
 
 use crate::counted::{Run, expect_both};
 use crate::functions::expect_before;

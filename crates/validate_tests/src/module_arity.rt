@@ -2,7 +2,7 @@
 
 ghost use Rattle.std.specs.Prelude.{◌<◌, ◌^◌};
 ghost use Rattle.validate_stacks.specs.State.{IsStarting};
-ghost use Rattle.wasmparser_validate.specs.Start.{state};
+ghost use Rattle.wasmparser_validate.specs.Validator.{state};
 
 use crate::examples::{Example, expect_example};
 use crate::expectations::{expect, expect_same};

@@ -1,7 +1,7 @@
 //! Modules: what the first lines of a script declare; and bodies that begin in them.
 
 ghost use Rattle.validate_stacks.specs.State.{IsStarting};
-ghost use Rattle.wasmparser_validate.specs.Start.{state};
+ghost use Rattle.wasmparser_validate.specs.Validator.{state};
 
 use crate::expectations::ample;
 use script_reader::{Script, read_script};

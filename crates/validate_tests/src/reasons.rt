@@ -2,7 +2,7 @@
 //! that no script writes: tables that end too early, and accesses whose natural alignment is another one than that of
 //! their operator.
 
-ghost use Rattle.wasmparser_validate.specs.Start.{state};
+ghost use Rattle.wasmparser_validate.specs.Validator.{state};
 ghost use Rattle.wasmparser_validate.specs.State.{IsStarting};
 
 use crate::examples::{Example, expect_example};

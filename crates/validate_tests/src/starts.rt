@@ -3,7 +3,7 @@
 
 ghost use Rattle.std.specs.Prelude.{◌≡◌, true};
 ghost use Rattle.validate_stacks.specs.State.{IsStarting};
-ghost use Rattle.wasmparser_validate.specs.Start.{state};
+ghost use Rattle.wasmparser_validate.specs.Validator.{state};
 
 use crate::answers::Step;
 use crate::bodies::{Way, expect_bodies};

@@ -7,7 +7,7 @@ ghost use Rattle.validate_stacks.specs.AtOnce.{MeetsAtOnce};
 ghost use Rattle.validate_stacks.specs.Pops.{IsKept};
 ghost use Rattle.validate_stacks.specs.State.{IsValidBody};
 ghost use Rattle.validate_stacks.specs.Visits.{MayVisit, Meets};
-ghost use Rattle.wasmparser_validate.specs.Start.{state, stacks_of};
+ghost use Rattle.wasmparser_validate.specs.Validator.{state, stacks_of};
 
 use crate::expectations::{ample, expect};
 use std::process::Abort;

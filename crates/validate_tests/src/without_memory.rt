@@ -1,7 +1,7 @@
 //! Operators that take no memory outside an attempt: each is accepted where there is none (`tests/c/growths.c`).
 
 ghost use Rattle.validate_stacks.specs.State.{IsStarting};
-ghost use Rattle.wasmparser_validate.specs.Start.{state};
+ghost use Rattle.wasmparser_validate.specs.Validator.{state};
 
 use crate::answers::check_in;
 use crate::examples::{Example, expect_example};

@@ -1,6 +1,6 @@
 //! What is shown of the operators of a body: all of them, or what stands behind a refusal.
 
-ghost use Rattle.validate_operators.specs.Start.{state};
+ghost use Rattle.validate_operators.specs.Validator.{state};
 ghost use Rattle.validate_stacks.specs.State.{IsStarting};
 
 use crate::lines::Lines;

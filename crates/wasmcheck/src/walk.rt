@@ -1,7 +1,7 @@
 //! A body that is walked through once more, operator by operator, to show what lies on its stacks.
 
 ghost use Rattle.std.specs.Prelude.{◌≡◌, None, OnOk};
-ghost use Rattle.validate_operators.specs.Start.{state};
+ghost use Rattle.validate_operators.specs.Validator.{state};
 ghost use Rattle.validate_stacks.specs.State.{IsStarting, IsValidBody};
 
 use crate::given::given_by;

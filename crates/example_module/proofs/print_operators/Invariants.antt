@@ -1,5 +1,5 @@
 use Rattle.std.proofs.Common.{◌≡◌, None}
-use Rattle.wasmparser_validate.specs.Start.{state}
+use Rattle.wasmparser_validate.specs.Validator.{state}
 use Rattle.wasmparser_validate.specs.State.{IsValidBody}
 use Rattle.example_module.proofs.print_operators.Given as goal
 

@@ -6,7 +6,8 @@ ghost use Rattle.validation_rules.specs.Static.{start, operand_count, frame_coun
 ghost use Rattle.validate_stacks.specs.State.{IsStarting};
 ghost use Rattle.validate_stacks.specs.Steps.{type_at_depth, frame_at};
 ghost use Rattle.validate_operators.specs.Runs.{IsAcceptedBody, IsSafe};
-ghost use Rattle.validate_operators.specs.Start.{state, current_kind, DefinesLocals, CannotDefine};
+ghost use Rattle.validate_operators.specs.Start.{DefinesLocals, CannotDefine};
+ghost use Rattle.validate_operators.specs.Validator.{state, current_kind};
 ghost use Rattle.wasmparser_validate.specs.Functions.{function_from, body_state, unmarked, IsStaticRun, Accepts, Refuses, Fails};
 ghost use Rattle.wasmparser_validate.specs.Operands.{types_in};
 
@@ -36,7 +37,7 @@ impl<'a, 'resources, R: WasmModuleResources> Model for FuncValidator<'a, 'resour
 
     ghost Value = { FunctionState R };
 
-    ghost use Rattle.validate_operators.specs.Start.{state};
+    ghost use Rattle.validate_operators.specs.Validator.{state};
     ghost use Rattle.wasmparser_validate.specs.Functions.{function_state, IsSound};
 
     ghost view = { λ f. function_state f.resources.now f.first_frame (state f.validator) f.accepted.items

@@ -8,7 +8,7 @@ ghost use Rattle.validate_stacks.specs.Pops.{IsKept};
 ghost use Rattle.validate_stacks.specs.State.{IsStarting, IsValidBody};
 ghost use Rattle.validate_stacks.specs.Steps.{type_at_depth};
 ghost use Rattle.validate_operators.specs.Runs.{without_offsets, body_before, IsAcceptedBody, IsRefusedAt};
-ghost use Rattle.validate_operators.specs.Start.{state};
+ghost use Rattle.validate_operators.specs.Validator.{state};
 ghost use Rattle.wasmparser_validate.specs.Operands.{types_in, types_before, AreTypesOfRuns};
 
 use std::alloc::Global;

@@ -1,6 +1,6 @@
 -- The function in the handle is that of the body.
 use Rattle.std.proofs.Common.{subst}
-use Rattle.validate_operators.specs.Start.{state}
+use Rattle.validate_operators.specs.Validator.{state}
 use Rattle.c_api.specs.Bodies.{StartsBody}
 use Rattle.c_api.specs.Calls.{OnWhole}
 use Rattle.c_api.proofs.Begun.{body_begun}

@@ -1,7 +1,7 @@
 -- The lookup is what the module declares.
 use Rattle.std.proofs.Common.{◌∙◌, ap}
 use Rattle.module_rules.specs.Features.{operator_features}
-use Rattle.validate_operators.specs.Start.{state}
+use Rattle.validate_operators.specs.Validator.{state}
 use Rattle.validate_resources.specs.Kept.{declared_lists}
 use Rattle.validate_resources.specs.Lists.{context_of}
 use Rattle.c_api.proofs.Begun.{all_starting, all_with_locals}

@@ -3,7 +3,7 @@ use Rattle.std.proofs.Common.{◌≡◌, ◌∙◌, sym, inl, inr}
 use Rattle.module_check.specs.Constant.{may_stand}
 use Rattle.module_check.specs.Refusals.{IsMalformed, IsRefusal, IsVector}
 use Rattle.module_check.specs.declared.verdict.Verdict.TheVariants.{Accepted, Malformed, NotCovered, OutOfMemory, Refused}
-use Rattle.validate_operators.specs.Start.{state}
+use Rattle.validate_operators.specs.Validator.{state}
 use Rattle.module_check.proofs.Begun.{given_ok, error_of, not_started}
 use Rattle.module_check.proofs.FirstFaults.{no_code, vector_there, vector_is_refusal, malformed_is_refusal}
 use Rattle.module_check.proofs.body.check_body.Goals as goal

@@ -1,7 +1,7 @@
 -- What was read and accepted is the code of the body; where something isn't, the bytes are none.
 use Rattle.std.proofs.Common.{inl, inr}
 use Rattle.std.proofs.lemmas.Result.{err_from_is_err_and}
-use Rattle.validate_operators.specs.Start.{state}
+use Rattle.validate_operators.specs.Validator.{state}
 use Rattle.module_check.specs.Constant.{may_stand}
 use Rattle.module_check.proofs.Begun.{function_code, expression_code, no_groups, function_fault, expression_fault}
 use Rattle.module_check.proofs.body.check_body_from.Goals as goal

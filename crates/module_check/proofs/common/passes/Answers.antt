@@ -1,5 +1,5 @@
 -- The operator that is handed in passes at once, or nothing is changed.
-use Rattle.validate_operators.specs.Start.{stacks_of}
+use Rattle.validate_operators.specs.Validator.{stacks_of}
 use Rattle.module_check.proofs.Turned.{at_once, not_at_once}
 use Rattle.module_check.proofs.common.passes.Goals as goal
 

@@ -1,7 +1,7 @@
 -- The bytes that the operator is are read, or nothing is changed.
 use Rattle.std.proofs.Common.{[], ◌∷◌, ap, sym, ◌∙◌}
 use Rattle.binary_operators.specs.Unread.{Unread}
-use Rattle.validate_operators.specs.Start.{stacks_of}
+use Rattle.validate_operators.specs.Validator.{stacks_of}
 use Rattle.module_check.proofs.Turned.{bytes_turn, bytes_same}
 use Rattle.module_check.proofs.common.passes_access.Goals as goal
 

@@ -5,7 +5,7 @@ use Rattle.binary_operators.specs.Unplaced.{unplaced}
 use Rattle.validate_visit.specs.declared.memory.MemArg.{MemArg}
 use Rattle.validate_visit.specs.declared.op.Op.{Op}
 use Rattle.validate_visit.specs.declared.op.Op.TheVariants.{Memory}
-use Rattle.validate_operators.specs.Start.{stacks_of}
+use Rattle.validate_operators.specs.Validator.{stacks_of}
 use Rattle.module_check.proofs.FirstBytes.{near, access_read}
 use Rattle.module_check.proofs.Turned.{bytes_at_once}
 use Rattle.module_check.proofs.common.passes_near.Goals as goal

@@ -4,7 +4,7 @@ use Rattle.std.proofs.lemmas.Result.{err_from_is_err_and}
 use Rattle.binary_operators.specs.Unplaced.{unplaced}
 use Rattle.binary_operators.specs.Unread.{Unread}
 use Rattle.validate_stacks.specs.State.{body_context}
-use Rattle.validate_operators.specs.Start.{state}
+use Rattle.validate_operators.specs.Validator.{state}
 use Rattle.module_check.specs.Constant.{may_stand}
 use Rattle.module_check.specs.Faults.{ReachFault}
 use Rattle.module_check.proofs.Begun.{then_ok}

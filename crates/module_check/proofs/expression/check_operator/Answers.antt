@@ -2,7 +2,7 @@
 use Rattle.std.proofs.Common.{inr}
 use Rattle.std.proofs.lemmas.Result.{err_from_is_err_and}
 use Rattle.validation_rules.specs.Operators.{operator}
-use Rattle.validate_operators.specs.Start.{state}
+use Rattle.validate_operators.specs.Validator.{state}
 use Rattle.module_check.proofs.Turned.{fails}
 use Rattle.module_check.proofs.expression.check_operator.Goals as goal
 

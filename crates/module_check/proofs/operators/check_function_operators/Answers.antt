@@ -1,7 +1,7 @@
 -- An operator more is read and accepted, and at the end all of them are.
 use Rattle.std.proofs.Common.{None, ◌≡◌, ◌≢◌, [], inl, sym, subst, length, arith}
 use Rattle.validate_stacks.specs.State.{body_context}
-use Rattle.validate_operators.specs.Start.{state}
+use Rattle.validate_operators.specs.Validator.{state}
 use Rattle.module_check.specs.Constant.{may_stand}
 use Rattle.module_check.specs.Faults.{IsFault, ReachFault}
 use Rattle.module_check.proofs.Begun.{then_ok}

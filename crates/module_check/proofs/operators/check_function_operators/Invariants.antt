@@ -1,7 +1,7 @@
 -- Some operators were read and accepted, and the validator is in the state behind them, where a frame is open. Each took
 -- a byte at least.
 use Rattle.std.proofs.Common.{None, ◌+◌, ◌≤◌, length}
-use Rattle.validate_operators.specs.Start.{state}
+use Rattle.validate_operators.specs.Validator.{state}
 use Rattle.module_check.specs.Constant.{may_stand}
 use Rattle.module_check.proofs.Behind.{IsOpenBehind}
 use Rattle.module_check.proofs.operators.check_function_operators.Given as goal

@@ -1,7 +1,7 @@
 -- A group more is read and defined, or none can be.
 use Rattle.std.proofs.Common.{arith, refl, subst, sym, [], ◌-◌, ◌≡◌}
 use Rattle.std.proofs.lemmas.Result.{err_from_is_err_and}
-use Rattle.validate_operators.specs.Start.{state}
+use Rattle.validate_operators.specs.Validator.{state}
 use Rattle.module_check.proofs.Groups.{DefinesMore, one_group_on, read_whole, in_parts, stops}
 use Rattle.module_check.proofs.operators.define_locals.Goals as goal
 

@@ -1,6 +1,6 @@
 -- The groups can be defined exactly if those that are left can, in the state that those so far lead to.
 use Rattle.std.proofs.Common.{◌-◌, ◌↔◌, ℕ, List}
-use Rattle.validate_operators.specs.Start.{state}
+use Rattle.validate_operators.specs.Validator.{state}
 use Rattle.validate_stacks.specs.State.{BodyState, IsStarting}
 use Rattle.module_check.proofs.Groups.{DefinesMore}
 use Rattle.module_check.proofs.operators.define_locals.Given as goal

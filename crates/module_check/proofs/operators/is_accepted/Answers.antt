@@ -5,7 +5,7 @@ use Rattle.validate_stacks.specs.Attempts.{Stacked}
 use Rattle.validate_stacks.specs.Visits.{step_body, MayVisit, Meets}
 use Rattle.validation_rules.specs.Static.{RowFails}
 use Rattle.validate_stacks.proofs.AtOnce.{done_at_once, same_at_once}
-use Rattle.validate_operators.specs.Start.{state, stacks_of}
+use Rattle.validate_operators.specs.Validator.{state, stacks_of}
 use Rattle.module_check.specs.Refusals.{IsRefusedFor}
 use Rattle.module_check.proofs.operators.is_accepted.Goals as goal
 

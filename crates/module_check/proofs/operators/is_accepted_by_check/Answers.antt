@@ -1,6 +1,6 @@
 -- The check refuses only where the row doesn't hold.
 use Rattle.validation_rules.specs.Operators.{operator}
-use Rattle.validate_operators.specs.Start.{state}
+use Rattle.validate_operators.specs.Validator.{state}
 use Rattle.module_check.proofs.Turned.{fails}
 use Rattle.module_check.proofs.operators.is_accepted_by_check.Goals as goal
 

@@ -5,7 +5,7 @@ use Rattle.validate_stacks.specs.State.{body_context}
 use Rattle.validate_stacks.specs.Visits.{step_body}
 use Rattle.validation_rules.specs.Static.{RowFails}
 use Rattle.validation_rules.specs.Operators.{operator}
-use Rattle.validate_operators.specs.Start.{state}
+use Rattle.validate_operators.specs.Validator.{state}
 use Rattle.module_check.specs.Constant.{may_stand}
 use Rattle.module_check.specs.Faults.{IsFault}
 use Rattle.module_check.specs.Refusals.{IsRefusedFor}

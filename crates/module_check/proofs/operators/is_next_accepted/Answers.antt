@@ -4,7 +4,7 @@ use Rattle.binary_operators.specs.Unread.{Unread}
 use Rattle.validate_stacks.specs.Attempts.{Stacked}
 use Rattle.validate_stacks.specs.State.{body_context}
 use Rattle.validate_stacks.specs.Visits.{MayVisit}
-use Rattle.validate_operators.specs.Start.{state, stacks_of}
+use Rattle.validate_operators.specs.Validator.{state, stacks_of}
 use Rattle.module_check.specs.Constant.{may_stand}
 use Rattle.module_check.specs.Faults.{IsFault}
 use Rattle.module_check.specs.Turns.{IsTurn}

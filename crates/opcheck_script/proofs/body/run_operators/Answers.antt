@@ -1,6 +1,6 @@
 use Rattle.std.proofs.Common.{◌≡◌, ◌||◌, Bool, true, sym, ap, ◌∙◌}
 use Rattle.std.specs.List.{list_any}
-use Rattle.validate_operators.specs.Start.{state}
+use Rattle.validate_operators.specs.Validator.{state}
 use Rattle.opcheck_script.specs.Reports.{is_attempted}
 use Rattle.opcheck_script.proofs.Reports.{ran_through, refused_at}
 use Rattle.opcheck_script.proofs.body.run_operators.Goals as goal

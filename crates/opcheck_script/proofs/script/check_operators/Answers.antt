@@ -1,5 +1,5 @@
 use Rattle.std.proofs.Common.{rules, inl, sym, ◌∙◌}
-use Rattle.validate_operators.specs.Start.{state}
+use Rattle.validate_operators.specs.Validator.{state}
 use Rattle.opcheck_script.proofs.Reports.{of_module}
 use Rattle.opcheck_script.proofs.script.check_operators.Goals as goal
 

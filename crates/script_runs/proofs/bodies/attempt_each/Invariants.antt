@@ -1,7 +1,7 @@
 -- No attempt is pending, and the types are valid.
 use Rattle.std.proofs.Common.{◌≡◌, None}
 use Rattle.validate_stacks.specs.State.{IsValidBody}
-use Rattle.validate_operators.specs.Start.{state}
+use Rattle.validate_operators.specs.Validator.{state}
 use Rattle.script_runs.proofs.bodies.attempt_each.Given as goal
 
 abbrev pub invariant-loop-pair : goal.invariant-loop-pair

@@ -6,7 +6,7 @@ use Rattle.validate_stacks.specs.Visits.{MayVisit, Meets}
 use Rattle.validation_rules.specs.Operators.{operator}
 use Rattle.validate_operators.proofs.Attempted.{accepted_begun, refused_begun}
 use Rattle.validate_stacks.proofs.Phases.{undone_whole}
-use Rattle.validate_operators.specs.Start.{state, stacks_of}
+use Rattle.validate_operators.specs.Validator.{state, stacks_of}
 use Rattle.validate_operators.proofs.Listed.{visit_at}
 use Rattle.validate_operators.proofs.attempts.try_and_undo.Goals as goal
 

@@ -3,7 +3,7 @@ use Rattle.validation_rules.specs.Operators.{operator}
 use Rattle.validate_stacks.specs.Attempts.{Stacked}
 use Rattle.validate_stacks.specs.Visits.{MayVisit, Meets}
 use Rattle.validate_stacks.proofs.AtOnce.{done_at_once, same_at_once}
-use Rattle.validate_operators.specs.Start.{state, stacks_of}
+use Rattle.validate_operators.specs.Validator.{state, stacks_of}
 use Rattle.validate_operators.proofs.Listed.{visit_valid, visit_kept}
 use Rattle.validate_operators.proofs.attempts.try_op.Goals as goal
 

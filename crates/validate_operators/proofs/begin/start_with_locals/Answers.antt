@@ -1,5 +1,5 @@
 use Rattle.std.proofs.Common.{arith, rules, ◌≡◌, false}
-use Rattle.validate_operators.specs.Start.{state}
+use Rattle.validate_operators.specs.Validator.{state}
 use Rattle.validate_operators.specs.Begin.{CannotBegin}
 use Rattle.validate_operators.proofs.Locals.{one_local_more, bad_group}
 use Rattle.validate_operators.proofs.begin.start_with_locals.Goals as goal

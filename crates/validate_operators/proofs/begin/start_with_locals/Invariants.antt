@@ -1,6 +1,6 @@
 use Rattle.std.proofs.Common.{take}
 use Rattle.validate_stacks.specs.State.{IsStarting}
-use Rattle.validate_operators.specs.Start.{state}
+use Rattle.validate_operators.specs.Validator.{state}
 use Rattle.validate_operators.specs.Begin.{HasLocals, without_places}
 use Rattle.validate_operators.proofs.begin.start_with_locals.Given as goal
 

@@ -1,7 +1,7 @@
 use Rattle.std.proofs.Common.{◌≡◌, ◌+◌, Ok, ◌++◌, ◌∷◌, [], ap, sym, ◌∙◌, subst, arith}
 use Rattle.std.proofs.lemmas.Bool.Decides.{nat_tests}
 use Rattle.validate_stacks.specs.Visits.{MayVisit}
-use Rattle.validate_operators.specs.Start.{state, stacks_of}
+use Rattle.validate_operators.specs.Validator.{state, stacks_of}
 use Rattle.validate_stacks.proofs.AtOnce.{done_at_once, same_at_once}
 use Rattle.validate_stacks.proofs.Validity.{kept_on}
 use Rattle.validate_operators.proofs.Listed.{refused_memory, refused_row, row_before, row_after, may_visit_next, IsFurther, further, safe_list, visit_kept}

@@ -4,7 +4,7 @@ use Rattle.std.proofs.Common.{◌≡◌, Some, drop}
 use Rattle.validate_stacks.specs.Pops.{IsKept}
 use Rattle.validate_stacks.specs.State.{IsValidBody}
 use Rattle.validate_operators.specs.Runs.{body_before, AreHeightsAfter}
-use Rattle.validate_operators.specs.Start.{state}
+use Rattle.validate_operators.specs.Validator.{state}
 use Rattle.validate_operators.proofs.Listed.{IsOrderedBelow}
 use Rattle.validate_operators.proofs.check.check_ops.Given as goal
 

@@ -1,7 +1,7 @@
 -- No attempt is pending, the types are valid, and the lines that are left are text.
 use Rattle.std.proofs.Common.{◌≡◌, None}
 use Rattle.validate_stacks.specs.State.{IsValidBody}
-use Rattle.wasmparser_validate.specs.Start.{state}
+use Rattle.wasmparser_validate.specs.Validator.{state}
 use Rattle.validate_tests.proofs.answers.add_each.Given as goal
 use denote.Shadow.{shadow}
 use denote.Text.{Utf8}

@@ -3,7 +3,7 @@ use Rattle.validation_rules.specs.Operators.{operator}
 use Rattle.validate_stacks.specs.Visits.{MayVisit}
 use Rattle.validate_stacks.proofs.AtOnce.{done_at_once, same_at_once}
 use Rattle.validate_operators.proofs.Listed.{row_before}
-use Rattle.wasmparser_validate.specs.Start.{stacks_of}
+use Rattle.wasmparser_validate.specs.Validator.{stacks_of}
 use Rattle.validate_tests.proofs.visits.check_in_halves.Goals as goal
 
 pub returns-then-passes_at_once : goal.returns-then-passes_at_once

@@ -1,4 +1,4 @@
-use Rattle.wasmparser_validate.specs.Start.{state}
+use Rattle.wasmparser_validate.specs.Validator.{state}
 use Rattle.validate_operators.proofs.Listed.{visit_valid, visit_kept}
 use Rattle.validate_tests.proofs.visits.visit_by.Goals as goal
 

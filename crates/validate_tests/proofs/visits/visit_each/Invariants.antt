@@ -1,7 +1,7 @@
 -- No attempt is pending, and the next operator may be visited.
 use Rattle.std.proofs.Common.{◌≡◌, None}
 use Rattle.validate_stacks.specs.Visits.{MayVisit}
-use Rattle.wasmparser_validate.specs.Start.{state, stacks_of}
+use Rattle.wasmparser_validate.specs.Validator.{state, stacks_of}
 use Rattle.validate_tests.proofs.visits.visit_each.Given as goal
 
 abbrev pub invariant-loop-op : goal.invariant-loop-op

@@ -1,5 +1,5 @@
 use Rattle.std.proofs.Common.{◌≡◌, None}
-use Rattle.validate_operators.specs.Start.{state}
+use Rattle.validate_operators.specs.Validator.{state}
 use Rattle.validate_stacks.specs.State.{IsValidBody}
 use Rattle.wasmcheck.proofs.walk.walk_through.Given as goal
 

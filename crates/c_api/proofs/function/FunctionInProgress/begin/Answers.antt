@@ -1,6 +1,6 @@
 -- It starts in the module's lookup, under its proposals.
 use Rattle.std.proofs.Common.{◌∙◌, ap}
-use Rattle.validate_operators.specs.Start.{state}
+use Rattle.validate_operators.specs.Validator.{state}
 use Rattle.validate_resources.specs.Kept.{declared_lists}
 use Rattle.validate_resources.specs.Lists.{context_of}
 use Rattle.c_api.specs.Modules.{context_in, features_in}

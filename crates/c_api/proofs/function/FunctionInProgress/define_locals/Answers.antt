@@ -1,6 +1,6 @@
 -- It is where it started.
 use Rattle.std.proofs.Common.{◌∙◌, sym, ap, subst}
-use Rattle.validate_operators.specs.Start.{state}
+use Rattle.validate_operators.specs.Validator.{state}
 use Rattle.validate_stacks.specs.State.{IsStarting}
 use Rattle.c_api.specs.Functions.{InProgress}
 use Rattle.c_api.specs.Modules.{context_in, module_of}

@@ -3,7 +3,7 @@ use Rattle.std.proofs.Common.{◌∙◌, ap, subst}
 use Rattle.validate_operators.proofs.Accepted.{accepted_whole}
 use Rattle.validate_operators.proofs.Listed.{safe_accepted}
 use Rattle.validate_operators.specs.Runs.{IsAcceptedBody}
-use Rattle.validate_operators.specs.Start.{state}
+use Rattle.validate_operators.specs.Validator.{state}
 use Rattle.wasmparser_validate.specs.Functions.{state_from}
 use Rattle.validate_resources.specs.Context.{IsLawful}
 use Rattle.c_api.specs.Functions.{InProgress, module_under}

@@ -1,6 +1,6 @@
 -- The operator joins the list, or none can be taken.
 use Rattle.std.proofs.Common.{◌≡◌, ◌∙◌, true, false, sym, ap, subst}
-use Rattle.validate_operators.specs.Start.{state}
+use Rattle.validate_operators.specs.Validator.{state}
 use Rattle.wasmparser_validate.specs.Functions.{function_state, body_state}
 use Rattle.validate_stacks.specs.State.{IsValidBody}
 use Rattle.validate_types.specs.Features.{has, simd}

@@ -1,7 +1,7 @@
 -- The operator joins the list.
 use Rattle.std.proofs.Common.{◌≡◌, true, false, subst}
 use Rattle.validate_operators.proofs.Listed.{visit_valid, visit_kept}
-use Rattle.validate_operators.specs.Start.{state}
+use Rattle.validate_operators.specs.Validator.{state}
 use Rattle.wasmparser_validate.specs.Functions.{function_state}
 use Rattle.c_api.specs.Functions.{InProgress, Takes}
 use Rattle.c_api.specs.VisitsMade.{IsVisited}

@@ -1,6 +1,6 @@
 -- What is looked up is what the module declares.
 use Rattle.std.proofs.Common.{Ok, refl, sym, subst, ap}
-use Rattle.validate_operators.specs.Start.{state, stacks_of}
+use Rattle.validate_operators.specs.Validator.{state, stacks_of}
 use Rattle.validate_resources.specs.Kept.{declared_lists}
 use Rattle.validate_resources.specs.Lists.{context_of}
 use Rattle.validate_stacks.proofs.AtOnce.{done_at_once, same_at_once}

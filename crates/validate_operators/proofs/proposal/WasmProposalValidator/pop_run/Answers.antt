@@ -3,7 +3,7 @@ use Rattle.validate_stacks.specs.Attempts.{Stacked}
 use Rattle.validate_stacks.specs.Pops.{IsKept}
 use Rattle.validate_stacks.specs.State.{IsValidBody}
 use Rattle.validate_stacks.proofs.AtOnce.{popped_each_kept}
-use Rattle.validate_operators.specs.Start.{state, stacks_of}
+use Rattle.validate_operators.specs.Validator.{state, stacks_of}
 use Rattle.validate_operators.proofs.CountedRuns.{run_popped, run_refused}
 use Rattle.validate_operators.proofs.proposal.WasmProposalValidator.pop_run.Goals as goal
 

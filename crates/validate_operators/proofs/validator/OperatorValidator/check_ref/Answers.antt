@@ -4,7 +4,7 @@ use Rattle.validate_stacks.specs.Attempts.{Stacked}
 use Rattle.validate_stacks.specs.Visits.{MayVisit}
 use Rattle.validate_stacks.proofs.AtOnce.{done_at_once, same_at_once}
 use Rattle.validate_operators.specs.Memory.{TakesNoMemory}
-use Rattle.validate_operators.specs.Start.{stacks_of}
+use Rattle.validate_operators.specs.Validator.{stacks_of}
 use Rattle.validate_operators.proofs.Listed.{row_before, visit_valid, visit_kept}
 use Rattle.validate_operators.proofs.validator.OperatorValidator.check_ref.Goals as goal
 

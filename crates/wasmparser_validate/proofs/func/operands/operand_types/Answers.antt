@@ -1,6 +1,6 @@
 use Rattle.std.proofs.Common.{◌≤◌, ◌-◌, ◌++◌, ◌∷◌, [], length, sym, ap, ◌∙◌, arith}
 use Rattle.validate_stacks.specs.Steps.{all_operands}
-use Rattle.validate_operators.specs.Start.{state}
+use Rattle.validate_operators.specs.Validator.{state}
 use Rattle.wasmparser_validate.proofs.OperandTypes.{length-all, types_more, types_none}
 use Rattle.wasmparser_validate.proofs.func.operands.operand_types.Goals as goal
 

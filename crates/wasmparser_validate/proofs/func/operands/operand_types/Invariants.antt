@@ -2,7 +2,7 @@
 use Rattle.std.proofs.Common.{◌≡◌, ◌+◌, ◌≤◌, map, reverse, drop, vec_len}
 use Rattle.std.specs.Vec.{vec_capacity}
 use Rattle.validate_stacks.specs.Steps.{all_operands, known_type}
-use Rattle.validate_operators.specs.Start.{state}
+use Rattle.validate_operators.specs.Validator.{state}
 use Rattle.wasmparser_validate.proofs.func.operands.operand_types.Given as goal
 
 abbrev pub invariant-loop-depth : goal.invariant-loop-depth

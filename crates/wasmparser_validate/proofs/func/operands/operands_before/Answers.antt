@@ -1,7 +1,7 @@
 use Rattle.std.proofs.Common.{◌≡◌, Some, sym, subst, add-one, arith}
 use Rattle.validate_stacks.proofs.Validity.{kept_on}
 use Rattle.validate_operators.specs.Runs.{body_before}
-use Rattle.validate_operators.specs.Start.{state}
+use Rattle.validate_operators.specs.Validator.{state}
 use Rattle.validate_operators.proofs.Listed.{refused_row, accepted_next, ordered_on, safe_accepted}
 use Rattle.wasmparser_validate.specs.Operands.{AreTypesOfRuns}
 use Rattle.wasmparser_validate.proofs.Held.{types_of_runs}

@@ -3,7 +3,7 @@ use Rattle.std.proofs.Common.{◌≡◌, Some, drop}
 use Rattle.validate_stacks.specs.Pops.{IsKept}
 use Rattle.validate_stacks.specs.State.{IsValidBody}
 use Rattle.validate_operators.specs.Runs.{body_before}
-use Rattle.validate_operators.specs.Start.{state}
+use Rattle.validate_operators.specs.Validator.{state}
 use Rattle.validate_operators.proofs.Listed.{IsOrderedBelow}
 use Rattle.wasmparser_validate.proofs.func.operands.operands_before.Given as goal
 

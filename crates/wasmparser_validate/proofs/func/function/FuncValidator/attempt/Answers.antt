@@ -4,7 +4,7 @@ use Rattle.validate_visit.specs.declared.op.Op.{Op}
 use Rattle.validation_rules.specs.Operators.{operator}
 use Rattle.validation_rules.specs.Static.{step}
 use Rattle.validate_stacks.specs.State.{BodyState, body_context}
-use Rattle.validate_operators.specs.Start.{state}
+use Rattle.validate_operators.specs.Validator.{state}
 use Rattle.validate_operators.proofs.Listed.{visited, not_visited, visit_offset}
 use Rattle.wasmparser_validate.specs.Functions.{FunctionState, function_state, Accepts, Refuses}
 use Rattle.wasmparser_validate.proofs.Accepted.{sound_accepted, accepts}

@@ -1,6 +1,6 @@
 use Rattle.std.proofs.Common.{ap, ◌∙◌, subst}
 use Rattle.validate_operators.specs.Runs.{IsAcceptedBody}
-use Rattle.validate_operators.specs.Start.{state}
+use Rattle.validate_operators.specs.Validator.{state}
 use Rattle.validate_operators.proofs.Listed.{safe_accepted}
 use Rattle.wasmparser_validate.specs.Functions.{FunctionState, state_from}
 use Rattle.validate_operators.proofs.Accepted.{accepted_whole}

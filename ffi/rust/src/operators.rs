@@ -18,7 +18,7 @@ pub struct Operator<'m> {
 }
 
 impl Operator<'_> {
-    /// Its name in the standard.
+    /// Its name in the standard. Each operator that was accepted has one.
     #[must_use]
     pub fn name(&self) -> Option<OperatorName> {
         OperatorName::of_bytes(self.bytes)

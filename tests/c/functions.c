@@ -262,6 +262,17 @@ static void try_cut(void) {
     EXPECT(has_text("unexpected end") && verdict.offset == sizeof bytes && module.at == NULL);
 }
 
+/* More functions than a module may have, without bodies: they are past a limit, and not malformed. */
+static void try_many(void) {
+    static const uint8_t head[] = {0, 'a',  's', 'm', 1,    0,    0,    0,    1,    4,   1,
+                                   0x60, 0, 0,   3,   0xc5, 0x84, 0x3d, 0xc2, 0x84, 0x3d};
+    static uint8_t bytes[sizeof head + 1000002];
+    struct tansyattic_module module = TANSYATTIC_NONE;
+    memcpy(bytes, head, sizeof head);
+    EXPECT(tansyattic_declare(bytes, sizeof bytes, TANSYATTIC_FEATURES_ALL, &module, TOLD) == TANSYATTIC_TOO_LARGE);
+    EXPECT(has_text("functions count exceeds limit of 1000000") && module.at == NULL);
+}
+
 /* A body of a module, with its locals; and names. */
 static void try_bodies(void) {
     struct tansyattic_module module = TANSYATTIC_NONE;
@@ -300,6 +311,7 @@ int main(void) {
     try_locals();
     try_bodies();
     try_cut();
+    try_many();
     printf("%ld expectations of functions, %ld unmet\n", expectations, unmet);
     return unmet != 0 || expectations == 0;
 }

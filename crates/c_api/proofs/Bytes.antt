@@ -4,7 +4,7 @@ use Rattle.std.specs.Prelude.{◌⊎◌, Result, Ok, Err, IsOk, IfOk, IfErr, Mat
 use Rattle.binary_operators.specs.Vectors.{BeginVector}
 use Rattle.module_check.specs.Decoded.{AreNoValidModule, AreTooLarge, AreValidModule}
 use Rattle.module_check.specs.Loaded.{bytes_of, features_of, IsAcceptedModule, IsValid}
-use Rattle.module_check.proofs.Decoded.{are_valid, is_no_valid, not_past, unread_no_valid}
+use Rattle.module_check.proofs.Decoded.{are_valid, declares_valid, is_no_valid, not_past, unread_no_valid}
 use Rattle.module_check.specs.declared.loaded.LoadedModule.{LoadedModule}
 use Rattle.binary_modules.specs.Modules.{IsNoModule}
 use Rattle.module_check.specs.FaultyModule.{HasInvalid, HasMalformed}
@@ -15,7 +15,8 @@ use Rattle.module_check.specs.declared.load_refusal.LoadRefusal.TheVariants.{Jud
 use Rattle.module_check.specs.declared.verdict.Verdict.TheVariants.{Refused, Malformed, NotCovered}
 use Rattle.module_rules.specs.Features.{of_bits, operator_features}
 use Rattle.module_rules.specs.declared.features.ModuleFeatures.{ModuleFeatures}
-use Rattle.module_check.specs.Unbodied.{BeginsModule, declared_by, features_of as features_alone}
+use Rattle.module_check.specs.EmptySections.{completed}
+use Rattle.module_check.specs.Unbodied.{DeclaresInModule, declared_by, features_of as features_alone}
 use Rattle.module_check.specs.declared.unbodied.LoadedDeclarations.{LoadedDeclarations}
 use Rattle.validate_types.specs.Features.{has, simd}
 use Rattle.validate_types.specs.declared.error.Error.{Error}
@@ -30,8 +31,8 @@ pub loaded_from : (bytes : List ℕ) (bits : ℕ) (f : ModuleFeatures) (r : Resu
 loaded_from bytes bits f (Ok m) b e s = record { has_bytes = b; has_features = e ∙ s }
 loaded_from bytes bits f (Err v) b e s = tt
 
-pub declared_from : (bytes : List ℕ) (bits : ℕ) (f : ModuleFeatures) (r : Result LoadedDeclarations LoadRefusal) → IfOk r (λ d. BeginsModule bytes (declared_by d)) → IfOk r (λ d. features_alone d ≡ f) → f ≡ of_bits bits → IfOk r (AreDeclaredFrom bytes bits)
-declared_from bytes bits f (Ok d) b e s = record { begin_module = b; have_features = e ∙ s }
+pub declared_from : (bytes : List ℕ) (bits : ℕ) (f : ModuleFeatures) (r : Result LoadedDeclarations LoadRefusal) → IfOk r (λ d. DeclaresInModule (completed bytes) (declared_by d)) → IfOk r (λ d. features_alone d ≡ f) → f ≡ of_bits bits → IfOk r (AreDeclaredFrom bytes bits)
+declared_from bytes bits f (Ok d) b e s = record { declare = b; have_features = e ∙ s }
 declared_from bytes bits f (Err v) b e s = tt
 
 -- what isn't covered of a module that was read, or why it wasn't
@@ -85,7 +86,7 @@ up_to_four (suc (suc (suc zero))) h = inr (inr (inr (inl refl)))
 up_to_four (suc (suc (suc (suc n)))) h = inr (inr (inr (inr (omega (arith, h)))))
 
 pub no_other : (features : ModuleFeatures) (bytes : List ℕ) (status : ℕ) → ((status ≡ 1) ⊎ (status ≡ 2) → AreNoValidModule features bytes) → (status ≡ 4 → AreNoValidModule features bytes) → (status ≡ 7 → AreTooLarge bytes) → (status ≤ 4) ⊎ (status ≡ 7) → AreValidModule features bytes → (status ≡ 0) ⊎ (status ≡ 3)
-no_other features bytes status refused uncovered large (inr seven) h = absurd (not_past features bytes (record { decoded = h.decoded; is_decoded = h.is_decoded; is_valid = h.is_valid.declarations_valid; is_within = h.is_within }) (large seven))
+no_other features bytes status refused uncovered large (inr seven) h = absurd (not_past features bytes (declares_valid features bytes h) (large seven))
 no_other features bytes status refused uncovered large (inl few) h =
     elim (up_to_four status few) [
       | inl none ↦ inl none

@@ -1,6 +1,5 @@
 -- What a status says of a module in a handle, by what there is to check.
-use Rattle.std.proofs.Common.{◌≡◌, ◌≢◌, ◌≤◌, ℕ, false, None, Some, inl, inr, nat_eq, eq-eqb, refl, sym, ◌∙◌, subst, arith}
-use borrow.Author.Tests.{clash}
+use Rattle.std.proofs.Common.{◌≡◌, ◌≢◌, ◌≤◌, ℕ, None, Some, inl, inr, refl, sym, ◌∙◌, subst, arith}
 use Rattle.std.specs.Prelude.{◌⊎◌, ◌↔◌}
 use Rattle.module_check.proofs.Begun.{none_or_some}
 use Rattle.module_check.specs.FaultyModule.{HasInvalid, HasMalformed, IsMalformedFunction, IsRefusedFunction}
@@ -19,7 +18,7 @@ use Rattle.c_api.specs.Modules.{module_of}
 use Rattle.c_api.specs.declared.kept.Kept.TheVariants.{Module, Function}
 use Rattle.c_api.specs.declared.shared.HeldModule.{HeldModule}
 use Rattle.c_api.specs.declared.shared.HeldModule.TheVariants.{Whole, Declared}
-use Rattle.c_api.proofs.Answered.{not_zero, not_three}
+use Rattle.c_api.proofs.Answered.{apart, not_zero, not_three}
 
 on_held : (o : MaybeKept) (h : HeldModule) → OnHeld o (λ i. i ≡ h) → (P : HeldModule → Type 0) → P h → OnHeld o P
 on_held None h is P p = absurd is
@@ -74,10 +73,7 @@ says_no s d = (λ z. not_zero s z d, λ z. not_three s z d)
 other_than : (s n : ℕ) → s ≡ n → n ≢ 1 → n ≢ 2 → (s ≡ 1) ⊎ (s ≡ 2) → ⊥
 other_than s n is a b d = elim d [ inl e ↦ a (sym is ∙ e) | inr e ↦ b (sym is ∙ e) ]
 
--- a status isn't two numbers at once, and none is past those that are known
-apart : {a b s : ℕ} → s ≡ a → s ≡ b → nat_eq a b ≡ false → ⊥
-apart {a} {b} p q other = clash (sym other ∙ eq-eqb a b (sym p ∙ q))
-
+-- none is past those that are known
 beyond_four : (s : ℕ) → s ≡ 5 → s ≤ 4 → ⊥
 beyond_four s e l = omega (arith, e, l)
 
@@ -110,11 +106,11 @@ module _ (o : MaybeKept) (s : ℕ) (v : ModuleVerdict) where
     has_module : HasNoModule o → ⊥
     has_module none = not_both o none (λ h. h ≡ Whole m) is
 
-    pub body_checked : (function : ℕ) → (s ≡ 0 → IsSafeFunction m function) → (SaysNo s → ¬ IsAcceptedFunction m function) → (s ≡ 1 → IsRefusedFunction m function) → (s ≡ 2 → IsMalformedFunction m function) → (s ≡ 4 → IsUncoveredFunction m function) → (s ≢ 0 → Reports (Some (OfFunction function)) v) → (s ≡ 5 ↔ HasNoBody (Whole m) function) → s ≤ 5 → BodyAnswer o function s v
+    pub body_checked : (function : ℕ) → (s ≡ 0 → IsSafeFunction m function) → (SaysNo s → ¬ IsAcceptedFunction m function) → (s ≡ 1 → IsRefusedFunction m function v.offset) → (s ≡ 2 → IsMalformedFunction m function) → (s ≡ 4 → IsUncoveredFunction m function) → (s ≢ 0 → Reports (Some (OfFunction function)) v) → (s ≡ 5 ↔ HasNoBody (Whole m) function) → s ≤ 5 → BodyAnswer o function s v
     body_checked function safe refused invalid malformed uncovered reported missing known = record {
       safe = λ z. on_whole (λ n. IsSafeFunction n function) (safe z);
       refused = λ d. on_whole (λ n. ¬ IsAcceptedFunction n function) (refused (says_no s d));
-      invalid = λ one. on_whole (λ n. IsRefusedFunction n function) (invalid one);
+      invalid = λ one. on_whole (λ n. IsRefusedFunction n function v.offset) (invalid one);
       malformed = λ two. on_whole (λ n. IsMalformedFunction n function) (malformed two);
       uncovered = λ four. on_whole (λ n. IsUncoveredFunction n function) (uncovered four);
       reported = λ other _. reported other;

@@ -15,7 +15,7 @@ use Rattle.c_api.specs.Items.{AreSafeFrom, IsReported}
 pub record BodyAnswer (o : MaybeKept) (function status : ℕ) (v : ModuleVerdict) : Type 0 where
   pub safe : status ≡ 0 → OnModule o (λ m. IsSafeFunction m function)
   pub refused : (status ≡ 1) ⊎ (status ≡ 2) → OnModule o (λ m. ¬ IsAcceptedFunction m function)
-  pub invalid : status ≡ 1 → OnModule o (λ m. IsRefusedFunction m function)
+  pub invalid : status ≡ 1 → OnModule o (λ m. IsRefusedFunction m function v.offset)
   pub malformed : status ≡ 2 → OnModule o (λ m. IsMalformedFunction m function)
   pub uncovered : status ≡ 4 → OnModule o (λ m. IsUncoveredFunction m function)
   pub reported : status ≢ 0 → status ≢ 6 → Reports (Some (Function function)) v

@@ -2,7 +2,8 @@
 use Rattle.std.specs.Prelude.{◌≡◌, ℕ, ◌≤◌, List, None, Some}
 use Rattle.module_check.specs.Loaded.{bytes_of, body_at, features_of}
 use Rattle.module_check.specs.declared.loaded.LoadedModule.{LoadedModule}
-use Rattle.module_check.specs.Unbodied.{BeginsModule, declared_by, features_of as features_alone}
+use Rattle.module_check.specs.EmptySections.{completed}
+use Rattle.module_check.specs.Unbodied.{DeclaresInModule, declared_by, features_of as features_alone}
 use Rattle.module_check.specs.declared.unbodied.LoadedDeclarations.{LoadedDeclarations}
 use Rattle.module_rules.specs.Features.{of_bits}
 use Rattle.c_api.specs.Handle.{MaybeKept}
@@ -68,9 +69,10 @@ pub record IsLoadedFrom (bytes : List ℕ) (bits : ℕ) (m : LoadedModule) : Typ
   pub has_bytes : bytes_of m ≡ bytes
   pub has_features : features_of m ≡ of_bits bits
 
--- what was declared was read of these bytes, under the proposals that these bits stand for
+-- what was declared was read of these bytes, with empty bodies and data segments behind them, under the proposals that
+-- these bits stand for
 pub record AreDeclaredFrom (bytes : List ℕ) (bits : ℕ) (d : LoadedDeclarations) : Type 0 where
-  pub begin_module : BeginsModule bytes (declared_by d)
+  pub declare : DeclaresInModule (completed bytes) (declared_by d)
   pub have_features : features_alone d ≡ of_bits bits
 
 -- it is what a module declares without bodies, and this holds of it

@@ -2,12 +2,13 @@
 
 ghost use Rattle.std.specs.Prelude.{◌≡◌, ◌≢◌, ◌⊎◌, ◌≤◌, ◌<◌, ◌-◌, ◌^◌, ◌↔◌, ℕ, length, min, true, false, None, Some, IsOk, IfOk, IfErr, OnOk, IfSome, MatchResult};
 ghost use Rattle.binary_modules.specs.Modules.{IsNoModule};
+ghost use Rattle.module_check.specs.EmptySections.{completed};
 ghost use Rattle.module_check.specs.FaultyModule.{HasInvalid, HasMalformed, IsMalformedFunction, IsRefusedFunction};
 ghost use Rattle.module_check.specs.Items.{item_count};
 ghost use Rattle.module_check.specs.Decoded.{AreNoValidModule, AreTooLarge, AreValidModule, DeclareValid};
 ghost use Rattle.module_check.specs.Loaded.{IsAcceptedFunction, IsAcceptedModule, IsSafeFunction, IsValid};
 ghost use Rattle.module_check.specs.UncoveredModule.{AreUncovered, HasUncovered, HasVectorIn, IsUncoveredFunction};
-ghost use Rattle.module_check.specs.Unloaded.{AreInvalid, AreMalformed, AreUnloaded, Completed};
+ghost use Rattle.module_check.specs.Unloaded.{AreInvalid, AreMalformed, AreUnloaded};
 ghost use Rattle.module_check.specs.Verdicts.{IsConsistent, Reports, SaysNo, total};
 ghost use Rattle.module_check.specs.declared.load_refusal.LoadRefusal.TheVariants.{Judged, TooLarge};
 ghost use Rattle.module_check.specs.declared.verdict.Item.TheVariants.{Function};
@@ -207,7 +208,8 @@ pub fn load(
 
 /// Reads what a module declares that has no bodies yet, of which these are all the bytes, and checks that it is valid
 /// under these proposals. Where the status is 0, the handle has it, and what it had before is freed; else it stays as it
-/// was. The bytes aren't kept.
+/// was. It is 0 exactly for bytes that, with empty bodies and data segments behind them, are those of a module whose
+/// declarations are valid and within the limits, unless memory runs out. The bytes aren't kept.
 pub fn declare(
     alloc: Global,
     bytes: &[u8],
@@ -220,11 +222,13 @@ pub fn declare(
     ensures consistent { IsConsistent (length text.new) out.new }
     ensures declared { result ≡ 0 → OnHeld handle.new.held (λ h.
         OnDeclared h (AreDeclaredFrom bytes.now features)) }
+    ensures valid { result ≡ 0 → DeclareValid (of_bits features) (completed bytes.now) }
+    ensures complete { DeclareValid (of_bits features) (completed bytes.now) → (result ≡ 0) ⊎ (result ≡ 3) }
     ensures unchanged { result ≢ 0 → handle.new.held ≡ handle.old.held }
     ensures uncovered { result ≡ 4 → HasVectorIn (of_bits features) bytes.now }
-    ensures malformed { result ≡ 2 → Completed IsNoModule bytes.now }
-    ensures invalid { result ≡ 1 → Completed (AreUnloaded (of_bits features)) bytes.now }
-    ensures too_large { result ≡ 7 → Completed AreTooLarge bytes.now }
+    ensures malformed { result ≡ 2 → IsNoModule (completed bytes.now) }
+    ensures invalid { result ≡ 1 → AreUnloaded (of_bits features) (completed bytes.now) }
+    ensures too_large { result ≡ 7 → AreTooLarge (completed bytes.now) }
     ensures known { (result ≤ 4) ⊎ (result ≡ 7) }
 {
     *out = ModuleVerdict::new();
@@ -247,15 +251,18 @@ fn read_declarations(
     features: u32,
 ) -> Result<LoadedDeclarations, LoadRefusal>
     ensures declared { IfOk result (AreDeclaredFrom bytes.now features) }
+    ensures valid { OnOk result (DeclareValid (of_bits features) (completed bytes.now)) }
+    ensures complete { IfErr result (λ refusal. DeclareValid (of_bits features) (completed bytes.now)
+        → refusal ≡ Judged OutOfMemory) }
     ensures refused { IfErr result (λ refusal. refusal ≢ Judged Accepted) }
     ensures uncovered { IfErr result (λ refusal. (offset : ℕ) → refusal ≡ Judged (NotCovered offset)
         → HasVectorIn (of_bits features) bytes.now) }
     ensures malformed { IfErr result (λ refusal. (e : Error) → refusal ≡ Judged (Malformed e)
-        → Completed IsNoModule bytes.now) }
+        → IsNoModule (completed bytes.now)) }
     ensures invalid { IfErr result (λ refusal. (e : Error) → refusal ≡ Judged (Refused e)
-        → Completed (AreUnloaded (of_bits features)) bytes.now) }
+        → AreUnloaded (of_bits features) (completed bytes.now)) }
     ensures too_large { IfErr result (λ refusal. (e : Error) → refusal ≡ TooLarge e
-        → Completed AreTooLarge bytes.now) }
+        → AreTooLarge (completed bytes.now)) }
 {
     LoadedDeclarations::new(alloc, bytes, ModuleFeatures::of_bits(features))
 }
@@ -431,7 +438,7 @@ fn check_one(
     ensures consistent { IsConsistent (length text.new) out.new }
     ensures safe { out.new.status ≡ 0 → IsSafeFunction «module».now function }
     ensures refused { SaysNo out.new.status → ¬ IsAcceptedFunction «module».now function }
-    ensures invalid { out.new.status ≡ 1 → IsRefusedFunction «module».now function }
+    ensures invalid { out.new.status ≡ 1 → IsRefusedFunction «module».now function out.new.offset }
     ensures malformed { out.new.status ≡ 2 → IsMalformedFunction «module».now function }
     ensures uncovered { out.new.status ≡ 4 → IsUncoveredFunction «module».now function }
     ensures reported { out.new.status ≢ 0 → Reports (Some (Function function)) out.new }
@@ -507,7 +514,8 @@ fn check_from_kept(
 }
 
 /// Checks the body of the function at this index. Where the status is 0, it is type safe; where it is 1 or 2, it isn't
-/// accepted, and it is refused (1) or malformed (2) at its first fault; where it is 5, the module has none for it.
+/// accepted, and it is refused (1) or malformed (2) at its first fault; where it is 5, the module has none for it. The
+/// offset of an operator that is refused is where it begins.
 pub fn validate_function(
     alloc: Global,
     handle: &mut Handle,
@@ -520,7 +528,7 @@ pub fn validate_function(
     ensures safe { result ≡ 0 → OnModule handle.old.held (λ m. IsSafeFunction m function) }
     ensures refused { (result ≡ 1) ⊎ (result ≡ 2)
         → OnModule handle.old.held (λ m. ¬ IsAcceptedFunction m function) }
-    ensures invalid { result ≡ 1 → OnModule handle.old.held (λ m. IsRefusedFunction m function) }
+    ensures invalid { result ≡ 1 → OnModule handle.old.held (λ m. IsRefusedFunction m function out.new.offset) }
     ensures malformed { result ≡ 2 → OnModule handle.old.held (λ m. IsMalformedFunction m function) }
     ensures uncovered { result ≡ 4 → OnModule handle.old.held (λ m. IsUncoveredFunction m function) }
     ensures reported { result ≢ 0 → result ≢ 6 → Reports (Some (Function function)) out.new }

@@ -111,14 +111,14 @@ module _ (md : ModuleContext) (features : WasmFeatures) (types : CanonicalTypes)
       (record { behind = behind; has_locals = d.are_read; has_operators = s.accepted.are_read }))
 
   -- a fault stands behind the locals and what is accepted
-  pub function_fault : (kind : BodyKind) (index : ℕ) (e : CheckError) → kind ≡ Function index → IsBodyStart md features kind v → DefinesRead md types bytes behind v u → ReachFault md types may u behind e → HasFault md features types kind may bytes e
-  function_fault kind index e is starts d reached = record {
+  pub function_fault : (kind : BodyKind) (index told end : ℕ) (e : CheckError) → kind ≡ Function index → told ≡ end → IsBodyStart md features kind v → DefinesRead md types bytes behind v u → ReachFault md types may told u behind e → HasFault md features types kind may end bytes e
+  function_fault kind index told end e is same starts d reached = record {
     groups = d.groups;
     behind = behind;
     are_read = subst (λ k. BeginLocals types k bytes d.groups behind) (sym is) d.are_read;
     begun = u;
     has_locals = record { start = v; starts = starts; defines = d.define };
-    reached = reached;
+    reached = subst (λ (n : ℕ). ReachFault md types may n u behind e) same reached;
   }
 
   -- the locals that the bytes begin with, in a body that is accepted
@@ -158,14 +158,14 @@ module _ (md : ModuleContext) (features : WasmFeatures) (types : CanonicalTypes)
       begun md features types may v v bytes bytes kind [] starts refl starting s
       (subst (λ k. IsCode types k bytes [] (without_offsets s.accepted.ops)) (sym is) (refl, s.accepted.are_read))
 
-  pub expression_fault : (kind : BodyKind) (ty : ValType) (e : CheckError) → kind ≡ Expression ty → IsBodyStart md features kind v → ReachFault md types may v bytes e → HasFault md features types kind may bytes e
-  expression_fault kind ty e is starts reached = record {
+  pub expression_fault : (kind : BodyKind) (ty : ValType) (told end : ℕ) (e : CheckError) → kind ≡ Expression ty → told ≡ end → IsBodyStart md features kind v → ReachFault md types may told v bytes e → HasFault md features types kind may end bytes e
+  expression_fault kind ty told end e is same starts reached = record {
     groups = [];
     behind = bytes;
     are_read = subst (λ k. BeginLocals types k bytes [] bytes) (sym is) (refl, refl);
     begun = v;
     has_locals = record { start = v; starts = starts; defines = refl };
-    reached = reached;
+    reached = subst (λ (n : ℕ). ReachFault md types may n v bytes e) same reached;
   }
 
   pub no_expression : (kind : BodyKind) (ty : ValType) → kind ≡ Expression ty → IsBodyStart md features kind v → ¬ AreAcceptedOperators md types may v bytes → ¬ IsAcceptedCode md features types kind may bytes
@@ -193,3 +193,8 @@ then_ok (Err e) f h = h
 pub error_of : {T E Q : Type 0} (r : Result T E) (R X : E → Type 0) → (IsOk r → ⊥) → IfErr r R → IfErr r X → ((e : E) → R e → X e → Q) → Q
 error_of (Ok x) R X none is told f = absurd (none refl)
 error_of (Err e) R X none is told f = f e is told
+
+-- two facts that are told of the error that there is
+pub both_told : {T E : Type 0} (r : Result T E) (X Y : E → Type 0) → IfErr r X → IfErr r Y → IfErr r (λ e. X e × Y e)
+both_told (Ok x) X Y a b = tt
+both_told (Err e) X Y a b = (a, b)

@@ -1,9 +1,10 @@
 -- One more operator of the bytes of a body: before it they are accepted exactly if those behind it are.
-use Rattle.std.proofs.Common.{◌≡◌, ◌≢◌, ◌⊎◌, inl, inr, ℕ, Bool, true, false, List, [], ◌∷◌, length, Option, Some, None, IfSome, IsSome, Result, Ok, Err, IfErr, is_none, ◌||◌, refl, sym, ap, ◌∙◌, subst}
+use Rattle.std.proofs.Common.{◌≡◌, ◌≢◌, ◌⊎◌, inl, inr, ℕ, ◌-◌, Bool, true, false, List, [], ◌∷◌, length, Option, Some, None, IfSome, IsSome, get_or, Result, Ok, Err, IfErr, is_none, ◌||◌, refl, sym, ap, ◌∙◌, subst}
 use Rattle.std.specs.Prelude.{OnErr}
 use Rattle.std.proofs.lemmas.Bool.{and_from, and_parts}
 use Rattle.std.specs.Option.{option_and_then, option_map}
 use Rattle.binary_operators.specs.Expressions.{AreOperators}
+use Rattle.binary_operators.specs.Forms.{forms}
 use Rattle.binary_operators.specs.Instructions.{operator as read_as}
 use Rattle.binary_operators.specs.Unplaced.{unplaced}
 use Rattle.binary_operators.specs.Vectors.{BeginVector}
@@ -28,7 +29,7 @@ use Rattle.validate_operators.proofs.Listed.{visited, visit_valid, visit_kept, n
 use Rattle.module_check.specs.Accepted.{AreAcceptedOperators}
 use Rattle.module_check.specs.Constant.{each_may_stand}
 use Rattle.module_check.specs.Faults.{IsUnreadable, IsInvalidThere, IsFault, ReachFault}
-use Rattle.module_check.specs.Refusals.{IsInvalid, IsRefusal, IsRefusedFor, IsVector}
+use Rattle.module_check.specs.Refusals.{IsInvalid, IsRefusal, IsRefusedFor, IsVector, error_offset}
 use Rattle.module_check.specs.declared.verdict.CheckError.{CheckError}
 use Rattle.module_check.specs.declared.verdict.CheckError.TheVariants.{Unread, Refused}
 use Rattle.module_check.specs.Safe.{AreSafeOperators}
@@ -51,8 +52,8 @@ not_both : (b : Bool) → b ≡ true → b ≡ false → ⊥
 not_both b is other = absurd cc
 
 -- what an operator comes to in a state doesn't ask for the present one
-fault_of_kept : (md : ModuleContext) (types : CanonicalTypes) (may : Op → Bool) (v w : BodyState) (s : State) (bytes : List ℕ) (e : CheckError) → IsKept v w → IsFault (body_context md w) types may s bytes e → IsFault (body_context md v) types may s bytes e
-fault_of_kept md types may v w s bytes e kept f = subst (λ (x : BodyState). IsFault (body_context md x) types may s bytes e) kept f
+fault_of_kept : (md : ModuleContext) (types : CanonicalTypes) (may : Op → Bool) (end : ℕ) (v w : BodyState) (s : State) (bytes : List ℕ) (e : CheckError) → IsKept v w → IsFault (body_context md w) types may end s bytes e → IsFault (body_context md v) types may end s bytes e
+fault_of_kept md types may end v w s bytes e kept f = subst (λ (x : BodyState). IsFault (body_context md x) types may end s bytes e) kept f
 
 module _ (md : ModuleContext) (types : CanonicalTypes) (may : Op → Bool) where
   -- the first of some accepted operators, and the others
@@ -96,8 +97,8 @@ module _ (md : ModuleContext) (types : CanonicalTypes) (may : Op → Bool) where
         rows_hold = (rows.0, ap (λ o. option_and_then (λ (s : State). state_before cx code s (length code)) o) row ∙ rows.1);
       }
 
-  fault_in_front : (v w : BodyState) (op : Op) (offset : ℕ) (bytes left : List ℕ) (e : CheckError) → read_as types bytes ≡ Some (op, left) → may op ≡ true → step_over md op v ≡ Some w.present → IsKept v w → ReachFault md types may w left e → ReachFault md types may v bytes e
-  fault_in_front v w op offset bytes left e read stands row kept a =
+  fault_in_front : (end : ℕ) (v w : BodyState) (op : Op) (offset : ℕ) (bytes left : List ℕ) (e : CheckError) → read_as types bytes ≡ Some (op, left) → may op ≡ true → step_over md op v ≡ Some w.present → IsKept v w → ReachFault md types may end w left e → ReachFault md types may end v bytes e
+  fault_in_front end v w op offset bytes left e read stands row kept a =
       let cx = body_context md v in
       let code = operators cx (without_offsets a.ops) in
       let rows : state_before cx code w.present (length a.ops) ≡ Some a.state = subst (λ (x : BodyState). state_before (body_context md x) (operators (body_context md x) (without_offsets a.ops)) w.present (length a.ops) ≡ Some a.state) kept a.rows_hold in
@@ -108,7 +109,7 @@ module _ (md : ModuleContext) (types : CanonicalTypes) (may : Op → Bool) where
         each_stands = and_from (may op) (each_may_stand may a.ops) stands a.each_stands;
         state = a.state;
         rows_hold = ap (λ o. option_and_then (λ (s : State). state_before cx code s (length a.ops)) o) row ∙ rows;
-        is_fault = fault_of_kept md types may v w a.state a.behind e kept a.is_fault;
+        is_fault = fault_of_kept md types may end v w a.state a.behind e kept a.is_fault;
       }
 
   behind_first : (v w : BodyState) (op : Op) (bytes left : List ℕ) → v.present.frames ≢ [] → read_as types bytes ≡ Some (op, left) → step_over md op v ≡ Some w.present → IsKept v w → AreAcceptedOperators md types may v bytes → AreAcceptedOperators md types may w left
@@ -162,19 +163,21 @@ row_fails md v op fails = ap (λ o. step (body_context md v) o v.present) (same_
 -- ---- what is told where something isn't accepted
 
 -- a refusal for one reason is one for what follows of it
-pub refused_for : (P Q : Type 0) (e : CheckError) → (P → Q) → IsRefusedFor P e → IsRefusedFor Q e
-refused_for P Q (Unread e) f refused = refused
-refused_for P Q (Refused e) f refused = λ memory. f (refused memory)
+pub refused_for : (P Q : Type 0) (offset : ℕ) (e : CheckError) → (P → Q) → IsRefusedFor P offset e → IsRefusedFor Q offset e
+refused_for P Q offset (Unread e) f refused = refused
+refused_for P Q offset (Refused e) f refused = λ memory. let r = refused memory in (f r.0, r.1)
 
 -- what is invalid is told by a refusal
-pub told_invalid : (cx : Context) (types : CanonicalTypes) (may : Op → Bool) (s : State) (bytes : List ℕ) (e : CheckError) → IsInvalid e → IsInvalidThere cx types may s bytes → IsFault cx types may s bytes e
-told_invalid cx types may s bytes (Unread e) invalid there = absurd invalid
-told_invalid cx types may s bytes (Refused e) invalid there = λ memory. there
+pub told_invalid : (cx : Context) (types : CanonicalTypes) (may : Op → Bool) (end : ℕ) (s : State) (bytes : List ℕ) (e : CheckError) → IsInvalid e → error_offset e ≡ end - length bytes → IsInvalidThere cx types may s bytes → IsFault cx types may end s bytes e
+told_invalid cx types may end s bytes (Unread e) invalid at there = absurd invalid
+told_invalid cx types may end s bytes (Refused e) invalid at there = λ memory. (there, at)
 
 -- so is an operator that is refused
-pub told_refused : (md : ModuleContext) (types : CanonicalTypes) (may : Op → Bool) (v : BodyState) (bytes left : List ℕ) (op : Op) (e : CheckError) → v.present.frames ≢ [] → read_as types bytes ≡ Some (op, left) → IsRefusedFor ((may op ≡ false) ⊎ RowFails (step_over md op v)) e → IsFault (body_context md v) types may v.present bytes e
-told_refused md types may v bytes left op (Unread e) opened read refused = absurd refused
-told_refused md types may v bytes left op (Refused e) opened read refused = λ memory. inr (inl (opened, record { op = op; left = left; is_read = read; fails = refused memory }))
+pub told_refused : (md : ModuleContext) (types : CanonicalTypes) (may : Op → Bool) (end offset : ℕ) (v : BodyState) (bytes left : List ℕ) (op : Op) (e : CheckError) → v.present.frames ≢ [] → read_as types bytes ≡ Some (op, left) → offset ≡ end - length bytes → IsRefusedFor ((may op ≡ false) ⊎ RowFails (step_over md op v)) offset e → IsFault (body_context md v) types may end v.present bytes e
+told_refused md types may end offset v bytes left op (Unread e) opened read at refused = absurd refused
+told_refused md types may end offset v bytes left op (Refused e) opened read at refused = λ memory.
+    let r = refused memory in
+    (inr (inl (opened, record { op = op; left = left; is_read = read; fails = r.0 })), r.1 ∙ at)
 
 pub unreadable : (types : CanonicalTypes) (cause : Cause) (bytes : List ℕ) → (cause ≢ OutOfMemory → read_as types bytes ≡ None) → (cause ≡ VectorOperator → BeginVector bytes) → IsUnreadable types cause bytes
 unreadable types (Malformed fault) bytes none vector = none (λ e. absurd cc)
@@ -195,29 +198,29 @@ not_read types (Malformed fault) bytes refusal none = none
 not_read types VectorOperator bytes refusal none = none.0
 not_read types OutOfMemory bytes refusal none = absurd (refusal refl)
 
-not_at_fault : (md : ModuleContext) (types : CanonicalTypes) (may : Op → Bool) (v : BodyState) (bytes : List ℕ) (e : CheckError) → IsFault (body_context md v) types may v.present bytes e → IsRefusal e → ¬ AreAcceptedOperators md types may v bytes
-not_at_fault md types may v bytes (Unread e) f refusal = unread md types may v bytes f.0 (not_read types e.cause bytes refusal f.1)
-not_at_fault md types may v bytes (Refused e) f refusal = not_there md types may v bytes (f refusal)
+not_at_fault : (md : ModuleContext) (types : CanonicalTypes) (may : Op → Bool) (end : ℕ) (v : BodyState) (bytes : List ℕ) (e : CheckError) → IsFault (body_context md v) types may end v.present bytes e → IsRefusal e → ¬ AreAcceptedOperators md types may v bytes
+not_at_fault md types may end v bytes (Unread e) f refusal = unread md types may v bytes f.0 (not_read types e.cause bytes refusal f.1)
+not_at_fault md types may end v bytes (Refused e) f refusal = not_there md types may v bytes (f refusal).0
 
-not_behind : (md : ModuleContext) (types : CanonicalTypes) (may : Op → Bool) (e : CheckError) (behind : List ℕ) (s : State) (ops : List (Op × ℕ)) (v : BodyState) (bytes : List ℕ) → AreOperators types bytes (without_offsets ops) behind → body_before md v ops (length ops) ≡ Some s → IsFault (body_context md v) types may s behind e → IsRefusal e → ¬ AreAcceptedOperators md types may v bytes
-not_behind md types may e behind s [] v bytes read rows f refusal =
-    let here = subst (λ (x : State). IsFault (body_context md v) types may x behind e) (sym (some_same v.present s rows)) f in
-    not_at_fault md types may v bytes e (subst (λ b. IsFault (body_context md v) types may v.present b e) (sym read) here) refusal
-not_behind md types may e behind s (p ∷ ops) v bytes read rows f refusal = λ a.
+not_behind : (md : ModuleContext) (types : CanonicalTypes) (may : Op → Bool) (end : ℕ) (e : CheckError) (behind : List ℕ) (s : State) (ops : List (Op × ℕ)) (v : BodyState) (bytes : List ℕ) → AreOperators types bytes (without_offsets ops) behind → body_before md v ops (length ops) ≡ Some s → IsFault (body_context md v) types may end s behind e → IsRefusal e → ¬ AreAcceptedOperators md types may v bytes
+not_behind md types may end e behind s [] v bytes read rows f refusal =
+    let here = subst (λ (x : State). IsFault (body_context md v) types may end x behind e) (sym (some_same v.present s rows)) f in
+    not_at_fault md types may end v bytes e (subst (λ b. IsFault (body_context md v) types may end v.present b e) (sym read) here) refusal
+not_behind md types may end e behind s (p ∷ ops) v bytes read rows f refusal = λ a.
     let cx = body_context md v in
     let m = and_then_given (step_over md p.0 v) (λ (t : State). state_before cx (operators cx (without_offsets ops)) t (length ops)) s rows in
     let opened : v.present.frames ≢ [] = λ closed. none_or_some m.0 (sym (no_step md p.0 v closed) ∙ m.1) in
     let next : BodyState = record v { present = m.0 } in
-    not_behind md types may e behind s ops next read.0 read.2 m.2 f refusal
+    not_behind md types may end e behind s ops next read.0 read.2 m.2 f refusal
     (behind_first md types may v next p.0 bytes read.0 opened read.1 m.1 refl a)
 
 -- behind accepted operators too
-pub not_reached : (md : ModuleContext) (types : CanonicalTypes) (may : Op → Bool) (v : BodyState) (bytes : List ℕ) (e : CheckError) → ReachFault md types may v bytes e → IsRefusal e → ¬ AreAcceptedOperators md types may v bytes
-not_reached md types may v bytes e r refusal = not_behind md types may e r.behind r.state r.ops v bytes r.are_read r.rows_hold r.is_fault refusal
+pub not_reached : (md : ModuleContext) (types : CanonicalTypes) (may : Op → Bool) (end : ℕ) (v : BodyState) (bytes : List ℕ) (e : CheckError) → ReachFault md types may end v bytes e → IsRefusal e → ¬ AreAcceptedOperators md types may v bytes
+not_reached md types may end v bytes e r refusal = not_behind md types may end e r.behind r.state r.ops v bytes r.are_read r.rows_hold r.is_fault refusal
 
 -- a vector operator that is told stands there
-pub vector_reached : (md : ModuleContext) (types : CanonicalTypes) (may : Op → Bool) (v : BodyState) (bytes : List ℕ) (e : CheckError) → ReachFault md types may v bytes e → IsVector e → ReachVector md types may v bytes
-vector_reached md types may v bytes (Unread e) r vector = record {
+pub vector_reached : (md : ModuleContext) (types : CanonicalTypes) (may : Op → Bool) (end : ℕ) (v : BodyState) (bytes : List ℕ) (e : CheckError) → ReachFault md types may end v bytes e → IsVector e → ReachVector md types may v bytes
+vector_reached md types may end v bytes (Unread e) r vector = record {
   ops = r.ops;
   behind = r.behind;
   are_read = r.are_read;
@@ -227,7 +230,27 @@ vector_reached md types may v bytes (Unread e) r vector = record {
   is_open = r.is_fault.0;
   begins = (subst (λ cause. IsUnreadable types cause r.behind) vector r.is_fault.1).1;
 }
-vector_reached md types may v bytes (Refused e) r vector = absurd vector
+vector_reached md types may end v bytes (Refused e) r vector = absurd vector
+
+-- and one that stands there isn't read
+vector_unread : (types : CanonicalTypes) (bytes : List ℕ) → BeginVector bytes → read_as types bytes ≡ None
+unfolding read_as forms
+vector_unread types [] begins = absurd cc
+vector_unread types (code ∷ bytes) begins = subst (λ (c : ℕ). read_as types (c ∷ bytes) ≡ None) (ap (λ l. get_or l 0 0) (sym begins)) refl
+
+abbrev pub unread_vector : CheckError
+unread_vector = Unread (record { cause = VectorOperator; offset = 0 })
+
+pub vector_fault : (md : ModuleContext) (types : CanonicalTypes) (may : Op → Bool) (end : ℕ) (v : BodyState) (bytes : List ℕ) → ReachVector md types may v bytes → ReachFault md types may end v bytes unread_vector
+vector_fault md types may end v bytes r = record {
+  ops = r.ops;
+  behind = r.behind;
+  are_read = r.are_read;
+  each_stands = r.each_stands;
+  state = r.state;
+  rows_hold = r.rows_hold;
+  is_fault = (r.is_open, (vector_unread types r.behind r.begins, r.begins));
+}
 
 -- what follows of each error follows of the one that there is
 pub for_some : {A : Type 0} → (o : Option A) (P Q : A → Type 0) → ((a : A) → P a → Q a) → IfSome o P → IfSome o Q
@@ -242,10 +265,10 @@ pub some_or_none : {A : Type 0} → (o : Option A) → IsSome o → o ≡ None �
 some_or_none None some none = absurd cc
 some_or_none (Some a) some none = absurd cc
 
--- what follows of what is left and of each error that says so
-pub told_in : {T : Type 0} → (left : Type 0) (X : CheckError → Type 0) → (r : Result T CheckError) → OnErr r left → IfErr r IsInvalid → ((e : CheckError) → IsInvalid e → left → X e) → IfErr r X
-told_in left X (Ok x) more invalid f = tt
-told_in left X (Err e) more invalid f = f e invalid more
+-- what follows of what is left and of each error that says so, at this offset
+pub told_in : {T : Type 0} → (left : Type 0) (X : CheckError → Type 0) (offset : ℕ) → (r : Result T CheckError) → OnErr r left → IfErr r IsInvalid → IfErr r (λ e. error_offset e ≡ offset) → ((e : CheckError) → IsInvalid e → error_offset e ≡ offset → left → X e) → IfErr r X
+told_in left X offset (Ok x) more invalid at f = tt
+told_in left X offset (Err e) more invalid at f = f e invalid at more
 
 pub none_left : (bytes : List ℕ) → length bytes ≡ 0 → bytes ≡ []
 none_left [] h = refl
@@ -257,7 +280,7 @@ none_left (b ∷ bytes) h = absurd cc
 -- from u on, and reach a fault if those do
 pub record IsBehind (md : ModuleContext) (types : CanonicalTypes) (may : Op → Bool) (v u : BodyState) (bytes left : List ℕ) : Type 0 where
   pub accepted : AreAcceptedOperators md types may u left → AreAcceptedOperators md types may v bytes
-  pub fault : (e : CheckError) → ReachFault md types may u left e → ReachFault md types may v bytes e
+  pub fault : (end : ℕ) (e : CheckError) → ReachFault md types may end u left e → ReachFault md types may end v bytes e
   pub valid : IsValidBody md u
   pub kept : IsKept v u
 
@@ -271,7 +294,7 @@ open_at_start s ty is e = let clash : (start ty).frames ≡ [] = sym (ap (λ (x 
 
 pub at_start : (md : ModuleContext) (types : CanonicalTypes) (may : Op → Bool) (v : BodyState) (bytes : List ℕ) → IsStarting md v → IsOpenBehind md types may v v bytes bytes
 at_start md types may v bytes s = record {
-  behind = record { accepted = λ a. a; fault = λ e a. a; valid = s.is_valid; kept = refl };
+  behind = record { accepted = λ a. a; fault = λ end e a. a; valid = s.is_valid; kept = refl };
   is_open = open_at_start v.present s.block_type s.one_frame;
 }
 
@@ -297,14 +320,14 @@ module _ (md : ModuleContext) (types : CanonicalTypes) (may : Op → Bool) (v : 
       let kept = visit_kept md _ _ u w _ m in
       record {
         accepted = λ a. b.behind.accepted (in_front md types may u w (unplaced op) offset left rest e stands row kept a);
-        fault = λ error a. b.behind.fault error (fault_in_front md types may u w (unplaced op) offset left rest error e stands row kept a);
+        fault = λ end error a. b.behind.fault end error (fault_in_front md types may end u w (unplaced op) offset left rest error e stands row kept a);
         valid = visit_valid md _ _ u w _ m;
         kept = kept_on v u w b.behind.kept kept;
       }
 
   -- what is told stands in what is left
-  pub at_fault : (u : BodyState) (e : CheckError) → IsBehind md types may v u bytes left → IsFault (body_context md u) types may u.present left e → ReachFault md types may v bytes e
-  at_fault u e b f = b.fault e (record {
+  pub at_fault : (end : ℕ) (u : BodyState) (e : CheckError) → IsBehind md types may v u bytes left → IsFault (body_context md u) types may end u.present left e → ReachFault md types may end v bytes e
+  at_fault end u e b f = b.fault end e (record {
     ops = [];
     behind = left;
     are_read = refl;

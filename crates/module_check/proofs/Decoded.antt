@@ -93,6 +93,14 @@ module _ (bytes : List ℕ) (d : Declarations) (bodies : List (List ℕ)) (expre
 
 -- ---- bytes whose declarations are valid
 
+pub declares_valid : (features : ModuleFeatures) (bytes : List ℕ) → AreValidModule features bytes → DeclareValid features bytes
+declares_valid features bytes h = record {
+  decoded = h.decoded;
+  is_decoded = h.is_decoded;
+  is_valid = h.is_valid.declarations_valid;
+  is_within = h.is_within;
+}
+
 pub declare_valid : (m : LoadedModule) → DeclareValid (features_of m) (bytes_of m)
 declare_valid m = record {
   decoded = unplaced_module (declarations m) (bytes_left m.bodies.items) (map told m.expressions.items);

@@ -19,13 +19,16 @@ use Rattle.validate_visit.specs.declared.op.Op.{Op}
 use Rattle.module_check.specs.Accepted.{IsAcceptedCode}
 use Rattle.module_check.specs.Constant.{may_stand}
 use Rattle.module_check.specs.Decoded.{AreNoValidModule}
-use Rattle.module_check.specs.Faults.{IsMalformedCode, IsRefusedCode}
+use Rattle.module_check.specs.Faults.{IsMalformedCode, IsRefusedCode, end_of}
 use Rattle.module_check.specs.FaultyModule.{HasInvalid, HasMalformed, IsMalformedExpression, IsMalformedFunction, IsRefusedExpression, IsRefusedFunction}
 use Rattle.module_check.specs.Items.{StandsAt, expression_count, function_at, item_count}
 use Rattle.module_check.specs.Loaded.{declarations, declared, bytes_of, features_of, HasBody, HasPlace, IsAcceptedFunction, IsAcceptedExpression, IsAcceptedModule}
+use Rattle.module_check.specs.Uncovered.{HasVector}
+use Rattle.module_check.specs.UncoveredModule.{HasUncovered, IsUncoveredExpression, IsUncoveredFunction}
 use Rattle.module_check.specs.Unloaded.{AreInvalid, AreMalformed}
 use Rattle.module_check.specs.declared.loaded.LoadedModule.{LoadedModule}
 use Rattle.module_check.proofs.Begun.{no_start}
+use Rattle.module_check.proofs.Behind.{unread_vector, vector_fault}
 use Rattle.module_check.proofs.Counted.{few_functions}
 use Rattle.module_check.proofs.Decoded.{is_no_valid, unloaded_no_valid, unread_no_valid}
 use Rattle.module_check.proofs.FirstFaults.{malformed_is_refusal, no_code}
@@ -41,13 +44,24 @@ one_there (a ∷ l) (suc i) h = one_there l i (omega arith)
 
 -- ---- code that can't start, or has a fault
 
-module _ (md : ModuleContext) (features : WasmFeatures) (types : CanonicalTypes) (kind : BodyKind) (may : Op → Bool) (bytes : List ℕ) where
-  malformed_code : IsMalformedCode md features types kind may bytes → ¬ IsAcceptedCode md features types kind may bytes
-  malformed_code h = no_code md features types may bytes kind h.error h.has_fault (malformed_is_refusal h.error h.is_malformed)
+module _ (md : ModuleContext) (features : WasmFeatures) (types : CanonicalTypes) (kind : BodyKind) (may : Op → Bool) (body : Unread) where
+  malformed_code : IsMalformedCode md features types kind may body → ¬ IsAcceptedCode md features types kind may body.left
+  malformed_code h = no_code md features types may (end_of body) body.left kind h.error h.has_fault (malformed_is_refusal h.error h.is_malformed)
 
-  refused_code : CannotStart md features kind ⊎ IsRefusedCode md features types kind may bytes → ¬ IsAcceptedCode md features types kind may bytes
-  refused_code (inl none) = λ a. no_start md features kind a.has_locals.start none a.has_locals.starts
-  refused_code (inr h) = no_code md features types may bytes kind h.error h.has_fault h.is_refusal
+  refused_code : (offset : ℕ) → CannotStart md features kind ⊎ IsRefusedCode md features types kind may body offset → ¬ IsAcceptedCode md features types kind may body.left
+  refused_code offset (inl none) = λ a. no_start md features kind a.has_locals.start none a.has_locals.starts
+  refused_code offset (inr h) = no_code md features types may (end_of body) body.left kind h.error h.has_fault h.is_refusal
+
+  -- a vector operator isn't read
+  uncovered_code : HasVector md features types kind may body.left → ¬ IsAcceptedCode md features types kind may body.left
+  uncovered_code h = no_code md features types may 0 body.left kind unread_vector (inr (record {
+    groups = h.groups;
+    behind = h.behind;
+    are_read = h.are_read;
+    begun = h.begun;
+    has_locals = h.has_locals;
+    reached = vector_fault md types may 0 h.begun h.behind h.reached;
+  })) (λ memory. absurd cc)
 
 -- ---- what stands in a module
 
@@ -76,24 +90,34 @@ module _ (m : LoadedModule) where
   malformed_function : (function : ℕ) → IsMalformedFunction m function → ¬ IsAcceptedFunction m function
   malformed_function function h =
       same_body function h.type_index h.body h.types h.is_body
-      (malformed_code (declared m) (operator_features (features_of m)) h.types (Function h.type_index) (may_stand None) h.body.left h.is_malformed)
+      (malformed_code (declared m) (operator_features (features_of m)) h.types (Function h.type_index) (may_stand None) h.body h.is_malformed)
 
-  refused_function : (function : ℕ) → IsRefusedFunction m function → ¬ IsAcceptedFunction m function
-  refused_function function (inl none) = λ a. none a.type_index a.body a.types a.is_body
-  refused_function function (inr h) =
+  refused_function : (function offset : ℕ) → IsRefusedFunction m function offset → ¬ IsAcceptedFunction m function
+  refused_function function offset (inl none) = λ a. none a.type_index a.body a.types a.is_body
+  refused_function function offset (inr h) =
       same_body function h.type_index h.body h.types h.is_body
-      (refused_code (declared m) (operator_features (features_of m)) h.types (Function h.type_index) (may_stand None) h.body.left h.is_refused)
+      (refused_code (declared m) (operator_features (features_of m)) h.types (Function h.type_index) (may_stand None) h.body offset h.is_refused)
+
+  uncovered_function : (function : ℕ) → IsUncoveredFunction m function → ¬ IsAcceptedFunction m function
+  uncovered_function function h =
+      same_body function h.type_index h.body h.types h.is_body
+      (uncovered_code (declared m) (operator_features (features_of m)) h.types (Function h.type_index) (may_stand None) h.body h.has_vector)
 
   malformed_expression : (e : ConstantExpression) → IsMalformedExpression m e → ¬ IsAcceptedExpression m e
   malformed_expression e h =
       same_place e h.value_type h.types h.has_place
-      (malformed_code (declared m) (operator_features (features_of m)) h.types (Expression h.value_type) (is_constant_in (features_of m) (declarations m) e.place) e.bytes.left h.is_malformed)
+      (malformed_code (declared m) (operator_features (features_of m)) h.types (Expression h.value_type) (is_constant_in (features_of m) (declarations m) e.place) e.bytes h.is_malformed)
 
-  refused_expression : (e : ConstantExpression) → IsRefusedExpression m e → ¬ IsAcceptedExpression m e
-  refused_expression e (inl none) = λ a. none a.value_type a.types a.has_place
-  refused_expression e (inr h) =
+  refused_expression : (e : ConstantExpression) (offset : ℕ) → IsRefusedExpression m e offset → ¬ IsAcceptedExpression m e
+  refused_expression e offset (inl none) = λ a. none a.value_type a.types a.has_place
+  refused_expression e offset (inr h) =
       same_place e h.value_type h.types h.has_place
-      (refused_code (declared m) (operator_features (features_of m)) h.types (Expression h.value_type) (is_constant_in (features_of m) (declarations m) e.place) e.bytes.left h.is_refused)
+      (refused_code (declared m) (operator_features (features_of m)) h.types (Expression h.value_type) (is_constant_in (features_of m) (declarations m) e.place) e.bytes offset h.is_refused)
+
+  uncovered_expression : (e : ConstantExpression) → IsUncoveredExpression m e → ¬ IsAcceptedExpression m e
+  uncovered_expression e h =
+      same_place e h.value_type h.types h.has_place
+      (uncovered_code (declared m) (operator_features (features_of m)) h.types (Expression h.value_type) (is_constant_in (features_of m) (declarations m) e.place) e.bytes h.has_vector)
 
   -- what stands at a place of the row and isn't accepted
   not_there : (of_expression : ConstantExpression → Type 0) (of_function : ℕ → Type 0) (place : ℕ) → place < item_count m → ((e : ConstantExpression) → of_expression e → ¬ IsAcceptedExpression m e) → ((function : ℕ) → of_function function → ¬ IsAcceptedFunction m function) → StandsAt m of_expression of_function place → ¬ IsAcceptedModule m
@@ -111,14 +135,19 @@ module _ (m : LoadedModule) where
       ]
 
   pub invalid_module : HasInvalid m → ¬ IsAcceptedModule m
-  invalid_module h = not_there (IsRefusedExpression m) (IsRefusedFunction m) h.0 h.1 refused_expression refused_function h.2
+  invalid_module h =
+      not_there (λ e. (offset : ℕ) × IsRefusedExpression m e offset) (λ function. (offset : ℕ) × IsRefusedFunction m function offset) h.0 h.1
+      (λ e x. refused_expression e x.0 x.1) (λ function x. refused_function function x.0 x.1) h.2
 
   pub malformed_module : HasMalformed m → ¬ IsAcceptedModule m
   malformed_module h = not_there (IsMalformedExpression m) (IsMalformedFunction m) h.0 h.1 malformed_expression malformed_function h.2
 
+  pub uncovered_module : HasUncovered m → ¬ IsAcceptedModule m
+  uncovered_module h = not_there (IsUncoveredExpression m) (IsUncoveredFunction m) h.0 h.1 uncovered_expression uncovered_function h.2
+
 -- ---- bytes
 
-not_valid : (features : ModuleFeatures) (bytes : List ℕ) (m : LoadedModule) → bytes_of m ≡ bytes → features_of m ≡ features → ¬ IsAcceptedModule m → AreNoValidModule features bytes
+pub not_valid : (features : ModuleFeatures) (bytes : List ℕ) (m : LoadedModule) → bytes_of m ≡ bytes → features_of m ≡ features → ¬ IsAcceptedModule m → AreNoValidModule features bytes
 not_valid features bytes m b f none =
     subst (λ (x : ModuleFeatures). AreNoValidModule x bytes) f (subst (AreNoValidModule (features_of m)) b (is_no_valid m none))
 

@@ -8,6 +8,7 @@ pub mod FirstFaults
 pub mod Forms
 pub mod Groups
 pub mod Offsets
+pub mod Outcomes
 pub mod Row
 pub mod Sections
 pub mod Turned

@@ -75,6 +75,6 @@ module _ (md : ModuleContext) where
   bytes_same false bytes r v w p is = (refl, p)
 
   -- a visit that is refused
-  pub fails : (op : Context → Operator) (offset : ℕ) (v w : BodyState) (e : ErrorValue) → Meets md op offset v (Err e) w → e.wants_memory ≡ false → RowFails (step_body md op v)
+  pub fails : (op : Context → Operator) (offset : ℕ) (v w : BodyState) (e : ErrorValue) → Meets md op offset v (Err e) w → e.wants_memory ≡ false → RowFails (step_body md op v) × (e.offset ≡ offset)
   unfolding Meets
-  fails op offset v w e m f = m.refused f
+  fails op offset v w e m f = (m.refused f, m.at_offset)

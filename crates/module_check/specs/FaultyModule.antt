@@ -21,23 +21,23 @@ pub record IsMalformedFunction (m : LoadedModule) (function : ℕ) : Type 0 wher
   pub types : CanonicalTypes
   pub is_body : HasBody m function type_index body types
   pub is_malformed : IsMalformedCode (declared m) (operator_features (features_of m)) types
-      (Function type_index) (may_stand None) body.left
+      (Function type_index) (may_stand None) body
 
--- The function has a body, which can't start, or is refused at its first fault.
-pub record HasRefusedBody (m : LoadedModule) (function : ℕ) : Type 0 where
+-- The function has a body, which can't start, or is refused at its first fault, at this offset.
+pub record HasRefusedBody (m : LoadedModule) (function offset : ℕ) : Type 0 where
   pub type_index : ℕ
   pub body : Unread
   pub types : CanonicalTypes
   pub is_body : HasBody m function type_index body types
   pub is_refused : CannotStart (declared m) (operator_features (features_of m)) (Function type_index)
       ⊎ IsRefusedCode (declared m) (operator_features (features_of m)) types
-      (Function type_index) (may_stand None) body.left
+      (Function type_index) (may_stand None) body offset
 
--- The function has no body, or one that is refused.
-abbrev pub IsRefusedFunction : LoadedModule → ℕ → Type 0
-IsRefusedFunction m function =
+-- The function has no body, or one that is refused, which is told at this offset.
+abbrev pub IsRefusedFunction : LoadedModule → ℕ → ℕ → Type 0
+IsRefusedFunction m function offset =
     ((type_index : ℕ) (body : Unread) (types : CanonicalTypes) → ¬ HasBody m function type_index body types)
-    ⊎ HasRefusedBody m function
+    ⊎ HasRefusedBody m function offset
 
 -- The same of a constant expression.
 pub record IsMalformedExpression (m : LoadedModule) (e : ConstantExpression) : Type 0 where
@@ -45,27 +45,29 @@ pub record IsMalformedExpression (m : LoadedModule) (e : ConstantExpression) : T
   pub types : CanonicalTypes
   pub has_place : HasPlace m e value_type types
   pub is_malformed : IsMalformedCode (declared m) (operator_features (features_of m)) types
-      (Expression value_type) (is_constant_in (features_of m) (declarations m) e.place) e.bytes.left
+      (Expression value_type) (is_constant_in (features_of m) (declarations m) e.place) e.bytes
 
-pub record HasRefusedExpression (m : LoadedModule) (e : ConstantExpression) : Type 0 where
+pub record HasRefusedExpression (m : LoadedModule) (e : ConstantExpression) (offset : ℕ) : Type 0 where
   pub value_type : ValType
   pub types : CanonicalTypes
   pub has_place : HasPlace m e value_type types
   pub is_refused : CannotStart (declared m) (operator_features (features_of m)) (Expression value_type)
       ⊎ IsRefusedCode (declared m) (operator_features (features_of m)) types
-      (Expression value_type) (is_constant_in (features_of m) (declarations m) e.place) e.bytes.left
+      (Expression value_type) (is_constant_in (features_of m) (declarations m) e.place) e.bytes offset
 
-abbrev pub IsRefusedExpression : LoadedModule → ConstantExpression → Type 0
-IsRefusedExpression m e =
+abbrev pub IsRefusedExpression : LoadedModule → ConstantExpression → ℕ → Type 0
+IsRefusedExpression m e offset =
     ((value_type : ValType) (types : CanonicalTypes) → ¬ HasPlace m e value_type types)
-    ⊎ HasRefusedExpression m e
+    ⊎ HasRefusedExpression m e offset
 
 -- What stands at this place of the row, if something does, is malformed, or it is refused.
 abbrev pub IsMalformedAt : LoadedModule → ℕ → Type 0
 IsMalformedAt m = StandsAt m (IsMalformedExpression m) (IsMalformedFunction m)
 
 abbrev pub IsInvalidAt : LoadedModule → ℕ → Type 0
-IsInvalidAt m = StandsAt m (IsRefusedExpression m) (IsRefusedFunction m)
+IsInvalidAt m =
+    StandsAt m (λ e. (offset : ℕ) × IsRefusedExpression m e offset)
+    (λ function. (offset : ℕ) × IsRefusedFunction m function offset)
 
 -- something in the row is malformed, or is refused
 abbrev pub HasMalformed : LoadedModule → Type 0

@@ -1,5 +1,5 @@
 -- When an answer other than yes is a no (the crate's own).
-use Rattle.std.specs.Prelude.{◌≡◌, ◌≢◌, false}
+use Rattle.std.specs.Prelude.{◌≡◌, ◌≢◌, ℕ, false}
 use Rattle.binary_operators.specs.declared.error.Cause.TheVariants.{Malformed, OutOfMemory, VectorOperator}
 use Rattle.binary_operators.specs.declared.error.Fault.{Fault}
 use Rattle.module_check.specs.declared.verdict.CheckError.{CheckError}
@@ -25,7 +25,12 @@ abbrev pub IsMalformed : CheckError → Type 0
 IsMalformed (Unread e) = (fault : Fault) × (e.cause ≡ Malformed fault)
 IsMalformed (Refused e) = ⊥
 
--- the validator refuses it for this, unless memory ran out
-abbrev pub IsRefusedFor : Type 0 → CheckError → Type 0
-IsRefusedFor reason (Unread e) = ⊥
-IsRefusedFor reason (Refused e) = e.wants_memory ≡ false → reason
+-- the offset that it tells
+abbrev pub error_offset : CheckError → ℕ
+error_offset (Unread e) = e.offset
+error_offset (Refused e) = e.offset
+
+-- the validator refuses it for this, at this offset, unless memory ran out
+abbrev pub IsRefusedFor : Type 0 → ℕ → CheckError → Type 0
+IsRefusedFor reason offset (Unread e) = ⊥
+IsRefusedFor reason offset (Refused e) = e.wants_memory ≡ false → reason × (e.offset ≡ offset)

@@ -1,5 +1,5 @@
 -- What a module declares that has no bodies yet (the crate's own).
-use Rattle.std.specs.Prelude.{◌≡◌, ℕ, ◌-◌, ◌^◌, List, ◌++◌, length, min}
+use Rattle.std.specs.Prelude.{◌≡◌, ℕ, ◌-◌, ◌^◌, List, length, min}
 use Rattle.binary_modules.specs.Modules.{IsModule}
 use Rattle.binary_operators.specs.declared.types.CanonicalTypes.{CanonicalTypes}
 use Rattle.binary_operators.specs.declared.types.GroupNames.TheVariants.{Indices}
@@ -9,7 +9,6 @@ use Rattle.module_rules.specs.declared.module.Place.{Place}
 use Rattle.validate_resources.specs.Context.{ModuleContext}
 use Rattle.validate_resources.specs.Kept.{declared_lists}
 use Rattle.validate_resources.specs.Lists.{context_of}
-use Rattle.module_check.specs.EmptySections.{sections_behind}
 use Rattle.module_check.specs.declared.unbodied.LoadedDeclarations.{LoadedDeclarations}
 
 -- what is declared, the proposals that are on, and the lookup
@@ -32,10 +31,3 @@ pub record DeclaresInModule (bytes : List ℕ) (d : Declarations) : Type 0 where
   pub bodies : List (List ℕ)
   pub expressions : List (Place × List ℕ)
   pub is_module : IsModule bytes d bodies expressions
-
--- With empty bodies and data segments behind them, as many as are needed, the bytes are those of a module that
--- declares this.
-pub record BeginsModule (bytes : List ℕ) (d : Declarations) : Type 0 where
-  pub functions : ℕ
-  pub segments : ℕ
-  pub declares : DeclaresInModule (bytes ++ sections_behind functions segments) d

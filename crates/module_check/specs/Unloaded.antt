@@ -1,9 +1,8 @@
 -- What bytes are that aren't loaded (the crate's own).
-use Rattle.std.specs.Prelude.{◌≡◌, ◌⊎◌, ℕ, List, ◌++◌}
+use Rattle.std.specs.Prelude.{◌≡◌, ◌⊎◌, ℕ, List}
 use Rattle.binary_modules.specs.Modules.{IsNoModule}
 use Rattle.module_rules.specs.declared.features.ModuleFeatures.{ModuleFeatures}
 use Rattle.module_check.specs.Decoded.{DeclareInvalid}
-use Rattle.module_check.specs.EmptySections.{sections_behind}
 use Rattle.module_check.specs.FaultyModule.{HasInvalid, HasMalformed}
 use Rattle.module_check.specs.Loaded.{bytes_of, features_of}
 use Rattle.module_check.specs.declared.loaded.LoadedModule.{LoadedModule}
@@ -11,10 +10,6 @@ use Rattle.module_check.specs.declared.loaded.LoadedModule.{LoadedModule}
 -- they are no module's, or what they declare isn't valid
 abbrev pub AreUnloaded : ModuleFeatures → List ℕ → Type 0
 AreUnloaded features bytes = IsNoModule bytes ⊎ DeclareInvalid features bytes
-
--- With empty bodies and data segments behind them, as many as are tried, they are such.
-abbrev pub Completed : (List ℕ → Type 0) → List ℕ → Type 0
-Completed Are bytes = (functions : ℕ) × (segments : ℕ) × Are (bytes ++ sections_behind functions segments)
 
 -- A module was read of these bytes, under these proposals, and something in it is malformed, or invalid.
 pub record AreMalformedModule (features : ModuleFeatures) (bytes : List ℕ) : Type 0 where

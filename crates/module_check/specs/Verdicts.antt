@@ -33,6 +33,14 @@ outcome_of (Malformed e) = IsMalformed
 outcome_of OutOfMemory = IsOutOfMemory
 outcome_of (NotCovered offset) = IsNotCovered
 
+-- the offset that it tells, or 0
+abbrev pub verdict_offset : Verdict → ℕ
+verdict_offset Accepted = 0
+verdict_offset (Refused e) = e.offset
+verdict_offset (Malformed e) = e.offset
+verdict_offset OutOfMemory = 0
+verdict_offset (NotCovered offset) = offset
+
 -- it isn't the verdict of what isn't covered
 abbrev pub IsCovered : Verdict → Type 0
 IsCovered v = (offset : ℕ) → v ≢ NotCovered offset

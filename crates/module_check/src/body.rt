@@ -6,7 +6,7 @@ ghost use Rattle.validate_stacks.specs.State.{IsStarting};
 ghost use Rattle.validate_operators.specs.Begin.{IsBodyStart, CannotStart};
 ghost use Rattle.module_check.specs.Accepted.{IsAcceptedCode};
 ghost use Rattle.module_check.specs.Constant.{may_stand};
-ghost use Rattle.module_check.specs.Faults.{HasFirstFault, IsMalformedCode, IsRefusedCode};
+ghost use Rattle.module_check.specs.Faults.{HasFirstFault, IsMalformedCode, IsRefusedCode, end_of};
 ghost use Rattle.module_check.specs.Refusals.{IsRefusal};
 ghost use Rattle.module_check.specs.Safe.{IsSafeCode};
 ghost use Rattle.module_check.specs.Uncovered.{HasVector};
@@ -17,7 +17,7 @@ ghost use Rattle.validate_types.specs.declared.features.WasmFeatures.{WasmFeatur
 
 use crate::buffers::BodyBuffers;
 use crate::constant::ConstantPlace;
-use crate::operators::{check_operators, define_locals};
+use crate::operators::{OpenBody, check_operators, define_locals, end_of};
 use crate::verdict::{CheckError, Verdict};
 use binary_operators::{BinaryReader, CanonicalTypes, OperatorLists};
 use validate_operators::OperatorValidator;
@@ -55,16 +55,20 @@ fn check_body_from<R: WasmModuleResources>(
     ensures fault { IfErr result (λ e. IsRefusal e → (features : WasmFeatures)
         → IsBodyStart (R.context context.now.resources.now) features kind (state v.old)
         → HasFirstFault (R.context context.now.resources.now) features context.now.types kind
-        (may_stand context.now.constant) reader.old.left e) }
+        (may_stand context.now.constant) (end_of reader.old) reader.old.left e) }
 {
+    let body = OpenBody {
+        context,
+        end: end_of(reader),
+    };
     match kind {
         BodyKind::Function(_) => {
             define_locals(v, context.resources, reader, context.types)?;
-            check_operators(v, context, reader, lists)?;
+            check_operators(v, &body, reader, lists)?;
             Ok(())
         }
         BodyKind::Expression(_) => {
-            check_operators(v, context, reader, lists)?;
+            check_operators(v, &body, reader, lists)?;
             Ok(())
         }
     }
@@ -77,7 +81,8 @@ fn check_body_from<R: WasmModuleResources>(
 ///   these operators gets stuck, from the start that the kind and the locals make, and what it returns fits the
 ///   results. In a constant expression each operator is constant.
 /// - `Refused`: the validator refuses an operator; or a frame is open at the end; or a byte stands after the operator
-///   that closes the body; or an operator isn't constant; or it is one on vectors, and their proposal is off.
+///   that closes the body; or an operator isn't constant; or it is one on vectors, and their proposal is off. The offset is
+///   where that begins, but for what is refused as it is read.
 /// - `Malformed`: it can't be read.
 /// - `NotCovered`: a vector operator stands after operators that are accepted, and its proposal is on.
 /// - `OutOfMemory`: memory ran out.
@@ -101,11 +106,11 @@ pub fn check_body<R: WasmModuleResources>(
         (may_stand context.now.constant) reader.old.left }
     ensures malformed { (e : Error) → result ≡ Malformed e
         → IsMalformedCode (R.context context.now.resources.now) context.now.features.now context.now.types kind
-        (may_stand context.now.constant) reader.old.left }
+        (may_stand context.now.constant) reader.old }
     ensures invalid { (e : Error) → result ≡ Refused e
         → CannotStart (R.context context.now.resources.now) context.now.features.now kind
         ⊎ IsRefusedCode (R.context context.now.resources.now) context.now.features.now context.now.types kind
-        (may_stand context.now.constant) reader.old.left }
+        (may_stand context.now.constant) reader.old e.offset }
 {
     let alloc = buffers.allocator();
     let BodyBuffers {

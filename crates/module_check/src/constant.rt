@@ -68,7 +68,7 @@ pub(crate) fn check_constant(
     offset: u64,
 ) -> Result<(), CheckError>
     ensures constant { OnOk result (may_stand (Some at.now) op.now ≡ true) }
-    ensures refused { IfErr result (IsRefusedFor (may_stand (Some at.now) op.now ≡ false)) }
+    ensures refused { IfErr result (IsRefusedFor (may_stand (Some at.now) op.now ≡ false) offset) }
 {
     match check_constant_operator(&at.context, *op) {
         Ok(()) => Ok(()),

@@ -11,9 +11,8 @@ ghost use Rattle.module_check.specs.Faults.{ReachFault};
 ghost use Rattle.module_check.specs.Refusals.{IsRefusedFor};
 ghost use Rattle.module_check.specs.Safe.{AreSafeOperators};
 
-use crate::body::BodyContext;
 use crate::constant::{ConstantPlace, check_constant};
-use crate::operators::{check_end, unclosed};
+use crate::operators::{OpenBody, check_end, unclosed};
 use crate::verdict::CheckError;
 use binary_operators::{BinaryReader, OperatorLists, read_operator_into};
 use validate_operators::OperatorValidator;
@@ -33,7 +32,7 @@ fn check_operator<R: WasmModuleResources>(
         (state v.new)) }
     ensures stands { OnOk result (may_stand (Some place.now) op.now ≡ true) }
     ensures refused { IfErr result (IsRefusedFor ((may_stand (Some place.now) op.now ≡ false)
-        ⊎ RowFails (step_body (R.context resources.now) (λ cx. operator cx op.now) (state v.old)))) }
+        ⊎ RowFails (step_body (R.context resources.now) (λ cx. operator cx op.now) (state v.old))) offset) }
 {
     check_constant(place, op, offset)?;
     v.check_ref(resources, offset, op)?;
@@ -44,28 +43,29 @@ fn check_operator<R: WasmModuleResources>(
 /// its place.
 pub(crate) fn check_constant_operators<R: WasmModuleResources>(
     v: &mut OperatorValidator,
-    context: &BodyContext<'_, R>,
+    body: &OpenBody<'_, '_, R>,
     reader: &mut BinaryReader<'_>,
     lists: &mut OperatorLists,
     place: ConstantPlace<'_>,
 ) -> Result<(), CheckError>
-    requires { IsStarting (R.context context.now.resources.now) (state v.old) }
-    ensures accepted { OnOk result (AreSafeOperators (R.context context.now.resources.now) context.now.types
+    requires { IsStarting (R.context body.now.context.now.resources.now) (state v.old) }
+    ensures accepted { OnOk result (AreSafeOperators (R.context body.now.context.now.resources.now) body.now.context.now.types
         (may_stand (Some place.entry)) (state v.old) reader.old.left) }
-    ensures fault { IfErr result (ReachFault (R.context context.now.resources.now) context.now.types
-        (may_stand (Some place.entry)) (state v.old) reader.old.left) }
+    ensures fault { IfErr result (ReachFault (R.context body.now.context.now.resources.now) body.now.context.now.types
+        (may_stand (Some place.entry)) body.now.end (state v.old) reader.old.left) }
 {
     for _ in 0..reader.bytes_left() {
         if reader.is_at_end() {
             break;
         }
-        let offset = reader.offset();
+        let offset = body.offset_of(reader);
         let mut op = Op::Numeric(NumericOp::I32Const(0));
-        read_operator_into(reader, &context.types, lists, &mut op)?;
-        check_operator(v, context.resources, offset, &op, &place)?;
+        read_operator_into(reader, &body.context.types, lists, &mut op)?;
+        check_operator(v, body.context.resources, offset, &op, &place)?;
         if v.control_stack_height() == 0 {
-            return check_end(reader.duplicate());
+            let end = body.offset_of(reader);
+            return check_end(reader.duplicate(), end);
         }
     }
-    Err(unclosed(reader.offset()))
+    Err(unclosed(body.offset_of(reader)))
 }

@@ -3,7 +3,7 @@
 ghost use Rattle.std.specs.Prelude.{◌≡◌, ◌≢◌, ◌⊎◌, ℕ, drop};
 ghost use Rattle.binary_operators.specs.Vectors.{BeginVector};
 ghost use Rattle.module_check.specs.declared.load_refusal.LoadRefusal.TheVariants.{Judged, TooLarge};
-ghost use Rattle.module_check.specs.declared.verdict.Verdict.TheVariants.{Accepted, Refused, Malformed, NotCovered};
+ghost use Rattle.module_check.specs.declared.verdict.Verdict.TheVariants.{Accepted, Refused, Malformed, NotCovered, OutOfMemory};
 ghost use Rattle.module_rules.specs.declared.refusals.ModuleRefusal.TheVariants.{Invalid, TooLarge as PastLimit};
 ghost use Rattle.validate_types.specs.declared.error.Error.{Error};
 
@@ -47,6 +47,7 @@ impl LoadRefusal {
             ⊎ ((offset : ℕ) × (self ≡ Judged (NotCovered offset))) }
         ensures invalid { (e : Error) → result ≡ Judged (Refused e) → self ≡ Judged (Refused e) }
         ensures too_large { (e : Error) → result ≡ TooLarge e → self ≡ TooLarge e }
+        ensures memory { self ≡ Judged OutOfMemory → result ≡ Judged OutOfMemory }
     {
         match self {
             LoadRefusal::Judged(verdict) => LoadRefusal::Judged(verdict.within(bytes)),

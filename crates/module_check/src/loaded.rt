@@ -304,12 +304,12 @@ impl<'a> LoadedModule<'a> {
         ensures malformed { (e : Error) → result ≡ Malformed e → (types : CanonicalTypes)
             × AreTypesOf self.now types
             × IsMalformedCode (declared self.now) (operator_features self.now.features) types kind
-            (may_stand constant.entry) bytes.now.left }
+            (may_stand constant.entry) bytes.now }
         ensures invalid { (e : Error) → result ≡ Refused e → (types : CanonicalTypes)
             × AreTypesOf self.now types
             × (CannotStart (declared self.now) (operator_features self.now.features) kind
             ⊎ IsRefusedCode (declared self.now) (operator_features self.now.features) types kind
-            (may_stand constant.entry) bytes.now.left) }
+            (may_stand constant.entry) bytes.now e.offset) }
     {
         let mut reader = bytes.duplicate();
         let features = self.features.operator_features();
@@ -338,7 +338,7 @@ impl<'a> LoadedModule<'a> {
             → has (operator_features (features_of self.now)) simd ≡ true }
         ensures uncovered { (offset : ℕ) → result ≡ NotCovered offset → IsUncoveredFunction self.now function }
         ensures malformed { (e : Error) → result ≡ Malformed e → IsMalformedFunction self.now function }
-        ensures invalid { (e : Error) → result ≡ Refused e → IsRefusedFunction self.now function }
+        ensures invalid { (e : Error) → result ≡ Refused e → IsRefusedFunction self.now function e.offset }
     {
         let Some(body) = self.body_of(function) else {
             return Verdict::Refused(unknown_function(0));
@@ -369,7 +369,8 @@ impl<'a> LoadedModule<'a> {
         ensures uncovered { (offset : ℕ) → result ≡ NotCovered offset
             → IsUncoveredExpression self.now expression.now }
         ensures malformed { (e : Error) → result ≡ Malformed e → IsMalformedExpression self.now expression.now }
-        ensures invalid { (e : Error) → result ≡ Refused e → IsRefusedExpression self.now expression.now }
+        ensures invalid { (e : Error) → result ≡ Refused e
+            → IsRefusedExpression self.now expression.now e.offset }
     {
         let place = expression.place;
         let Some(ty) = expression_type(&self.declared, place) else {

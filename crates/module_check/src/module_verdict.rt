@@ -102,6 +102,7 @@ impl ModuleVerdict {
         ensures refused { self.new.refused ≡ self.old.refused }
         ensures not_covered { self.new.not_covered ≡ self.old.not_covered }
         ensures reported { Reports item self.new }
+        ensures offset { self.new.offset ≡ offset }
         ensures fits { self.new.text_length ≤ length text.new }
         ensures needed { self.new.text_needed ≡ length message.now }
     {
@@ -147,7 +148,7 @@ impl ModuleVerdict {
         ensures malformed { self.new.status ≡ 2 → (self.old.status ≡ 2)
             ⊎ ((e : Error) × (verdict.now ≡ Malformed e)) }
         ensures invalid { self.new.status ≡ 1 → (self.old.status ≡ 1)
-            ⊎ ((e : Error) × (verdict.now ≡ Refused e)) }
+            ⊎ ((e : Error) × (verdict.now ≡ Refused e) × (self.new.offset ≡ e.offset)) }
     {
         self.count(verdict);
         let outcome = Outcome::of(verdict);

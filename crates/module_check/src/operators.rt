@@ -1,6 +1,6 @@
 //! The operators of a body, which are read and handed to its validator one by one.
 
-ghost use Rattle.std.specs.Prelude.{◌≡◌, ◌≢◌, ℕ, List, [], true, false, Ok, Some, None, OnOk, IfOk, OnErr, IfErr, IfSome, IsSome};
+ghost use Rattle.std.specs.Prelude.{◌≡◌, ◌≢◌, ℕ, ◌-◌, List, [], length, true, false, Ok, Some, None, OnOk, IfOk, OnErr, IfErr, IfSome, IsSome};
 ghost use Rattle.binary_operators.specs.Functions.{locals};
 ghost use Rattle.binary_operators.specs.Vectors.{IsNoVector};
 ghost use Rattle.validate_stacks.specs.State.{BodyState, IsStarting, body_context};
@@ -10,8 +10,8 @@ ghost use Rattle.validation_rules.specs.Operators.{operator};
 ghost use Rattle.validate_operators.specs.Validator.{state, stacks_of};
 ghost use Rattle.module_check.specs.Begin.{DefinesGroup, DefinesRead};
 ghost use Rattle.module_check.specs.Constant.{may_stand};
-ghost use Rattle.module_check.specs.Faults.{IsFault, ReachFault};
-ghost use Rattle.module_check.specs.Refusals.{IsRefusal, IsInvalid, IsRefusedFor, IsVector};
+ghost use Rattle.module_check.specs.Faults.{IsFault, ReachFault, end_of};
+ghost use Rattle.module_check.specs.Refusals.{IsRefusal, IsInvalid, IsRefusedFor, IsVector, error_offset};
 ghost use Rattle.module_check.specs.Safe.{AreSafeOperators};
 ghost use Rattle.module_check.specs.Turns.{IsTurn};
 
@@ -88,9 +88,37 @@ pub(crate) fn define_locals<R: WasmModuleResources>(
     Ok(())
 }
 
+/// The offset behind what is left to read.
+pub(crate) fn end_of(code: &BinaryReader<'_>) -> u64
+    ensures { result ≡ end_of code.now }
+{
+    code.behind(code.bytes_left()).offset()
+}
+
+/// A body that is being checked.
+#[derive(Drop)]
+pub(crate) struct OpenBody<'b, 'm, R> {
+    /// What it is checked in.
+    pub(crate) context: &'b BodyContext<'m, R>,
+    /// The offset behind it.
+    pub(crate) end: u64,
+}
+
+impl<R> OpenBody<'_, '_, R> {
+    /// The offset of what is left of it to read here. It is told by the end of the body: a contract says what a read
+    /// leaves, and not where that stands.
+    #[inline(always)]
+    pub(crate) fn offset_of(&self, reader: &BinaryReader<'_>) -> u64
+        ensures { result ≡ self.now.end - length reader.now.left }
+    {
+        self.end.saturating_sub(reader.bytes_left() as u64)
+    }
+}
+
 /// The refusal of a body whose operators end while a frame is open, at this offset.
 pub(crate) fn unclosed(offset: u64) -> CheckError
-    ensures { IsInvalid result }
+    ensures invalid { IsInvalid result }
+    ensures offset { error_offset result ≡ offset }
 {
     CheckError::refused(
         "control frames remain at end of function body or expression",
@@ -103,50 +131,51 @@ pub(crate) fn unclosed(offset: u64) -> CheckError
 #[inline(never)]
 fn is_any_accepted<R: WasmModuleResources>(
     v: &mut OperatorValidator,
-    context: &BodyContext<'_, R>,
+    body: &OpenBody<'_, '_, R>,
     reader: &mut BinaryReader<'_>,
     lists: &mut OperatorLists,
     refusal: &mut Option<CheckError>,
 ) -> bool
-    requires { MayVisit (R.context context.now.resources.now) (stacks_of v.old) }
-    ensures turn { result ≡ true → IsTurn (R.context context.now.resources.now) context.now.types reader.old.left
-        reader.new.left (state v.old) (state v.new) }
+    requires { MayVisit (R.context body.now.context.now.resources.now) (stacks_of v.old) }
+    ensures turn { result ≡ true → IsTurn (R.context body.now.context.now.resources.now) body.now.context.now.types
+        reader.old.left reader.new.left (state v.old) (state v.new) }
     ensures told { result ≡ false → IsSome refusal.new }
     ensures fault { result ≡ false → IfSome refusal.new (IsFault
-        (body_context (R.context context.now.resources.now) (state v.old)) context.now.types (may_stand None)
-        (state v.old).present reader.old.left) }
+        (body_context (R.context body.now.context.now.resources.now) (state v.old)) body.now.context.now.types
+        (may_stand None) body.now.end (state v.old).present reader.old.left) }
 {
-    let offset = reader.offset();
+    let offset = body.offset_of(reader);
     if reader.is_at_end() {
         *refusal = Some(unclosed(offset));
         return false;
     }
     let mut op = Op::Numeric(NumericOp::I32Const(0));
-    if let Err(error) = read_operator_into(reader, &context.types, lists, &mut op) {
+    if let Err(error) = read_operator_into(reader, &body.context.types, lists, &mut op) {
         *refusal = Some(CheckError::Unread(error));
         return false;
     }
-    is_accepted(v, context.resources, offset, &op, refusal)
+    is_accepted(v, body.context.resources, offset, &op, refusal)
 }
 
 /// [`is_any_accepted`], which tries first whether the first byte tells how the operator is read.
 #[inline(always)]
 fn is_read_accepted<R: WasmModuleResources>(
     v: &mut OperatorValidator,
-    context: &BodyContext<'_, R>,
+    body: &OpenBody<'_, '_, R>,
     reader: &mut BinaryReader<'_>,
     lists: &mut OperatorLists,
     refusal: &mut Option<CheckError>,
 ) -> bool
-    requires { MayVisit (R.context context.now.resources.now) (stacks_of v.old) }
-    ensures turn { result ≡ true → IsTurn (R.context context.now.resources.now) context.now.types reader.old.left
-        reader.new.left (state v.old) (state v.new) }
+    requires { MayVisit (R.context body.now.context.now.resources.now) (stacks_of v.old) }
+    ensures turn { result ≡ true → IsTurn (R.context body.now.context.now.resources.now) body.now.context.now.types
+        reader.old.left reader.new.left (state v.old) (state v.new) }
     ensures told { result ≡ false → IsSome refusal.new }
     ensures fault { result ≡ false → IfSome refusal.new (IsFault
-        (body_context (R.context context.now.resources.now) (state v.old)) context.now.types (may_stand None)
-        (state v.old).present reader.old.left) }
+        (body_context (R.context body.now.context.now.resources.now) (state v.old)) body.now.context.now.types
+        (may_stand None) body.now.end (state v.old).present reader.old.left) }
 {
-    passes_told(v, context.resources, reader) || is_any_accepted(v, context, reader, lists, refusal)
+    passes_told(v, body.context.resources, reader)
+        || is_any_accepted(v, body, reader, lists, refusal)
 }
 
 /// [`is_read_accepted`] by another reader, so that this one needn't lie in memory. It is a function of its own, since what a
@@ -154,21 +183,21 @@ fn is_read_accepted<R: WasmModuleResources>(
 #[inline(always)]
 fn is_lent_accepted<R: WasmModuleResources>(
     v: &mut OperatorValidator,
-    context: &BodyContext<'_, R>,
+    body: &OpenBody<'_, '_, R>,
     reader: &mut BinaryReader<'_>,
     lists: &mut OperatorLists,
     refusal: &mut Option<CheckError>,
 ) -> bool
-    requires { MayVisit (R.context context.now.resources.now) (stacks_of v.old) }
-    ensures turn { result ≡ true → IsTurn (R.context context.now.resources.now) context.now.types reader.old.left
-        reader.new.left (state v.old) (state v.new) }
+    requires { MayVisit (R.context body.now.context.now.resources.now) (stacks_of v.old) }
+    ensures turn { result ≡ true → IsTurn (R.context body.now.context.now.resources.now) body.now.context.now.types
+        reader.old.left reader.new.left (state v.old) (state v.new) }
     ensures told { result ≡ false → IsSome refusal.new }
     ensures fault { result ≡ false → IfSome refusal.new (IsFault
-        (body_context (R.context context.now.resources.now) (state v.old)) context.now.types (may_stand None)
-        (state v.old).present reader.old.left) }
+        (body_context (R.context body.now.context.now.resources.now) (state v.old)) body.now.context.now.types
+        (may_stand None) body.now.end (state v.old).present reader.old.left) }
 {
     let mut lent = reader.duplicate();
-    let is_accepted = is_read_accepted(v, context, &mut lent, lists, refusal);
+    let is_accepted = is_read_accepted(v, body, &mut lent, lists, refusal);
     *reader = lent.duplicate();
     is_accepted
 }
@@ -177,50 +206,51 @@ fn is_lent_accepted<R: WasmModuleResources>(
 #[inline(always)]
 fn is_next_accepted<R: WasmModuleResources>(
     v: &mut OperatorValidator,
-    context: &BodyContext<'_, R>,
+    body: &OpenBody<'_, '_, R>,
     reader: &mut BinaryReader<'_>,
     lists: &mut OperatorLists,
     refusal: &mut Option<CheckError>,
 ) -> bool
-    requires { MayVisit (R.context context.now.resources.now) (stacks_of v.old) }
-    ensures turn { result ≡ true → IsTurn (R.context context.now.resources.now) context.now.types reader.old.left
-        reader.new.left (state v.old) (state v.new) }
+    requires { MayVisit (R.context body.now.context.now.resources.now) (stacks_of v.old) }
+    ensures turn { result ≡ true → IsTurn (R.context body.now.context.now.resources.now) body.now.context.now.types
+        reader.old.left reader.new.left (state v.old) (state v.new) }
     ensures told { result ≡ false → IsSome refusal.new }
     ensures fault { result ≡ false → IfSome refusal.new (IsFault
-        (body_context (R.context context.now.resources.now) (state v.old)) context.now.types (may_stand None)
-        (state v.old).present reader.old.left) }
+        (body_context (R.context body.now.context.now.resources.now) (state v.old)) body.now.context.now.types
+        (may_stand None) body.now.end (state v.old).present reader.old.left) }
 {
-    passes_common(v, context.resources, reader)
-        || is_lent_accepted(v, context, reader, lists, refusal)
+    passes_common(v, body.context.resources, reader)
+        || is_lent_accepted(v, body, reader, lists, refusal)
 }
 
 /// [`check_operators`] of a function, in which any operator may stand.
 fn check_function_operators<R: WasmModuleResources>(
     v: &mut OperatorValidator,
-    context: &BodyContext<'_, R>,
+    body: &OpenBody<'_, '_, R>,
     code: &BinaryReader<'_>,
     lists: &mut OperatorLists,
 ) -> Result<(), CheckError>
-    requires { IsStarting (R.context context.now.resources.now) (state v.old) }
-    ensures accepted { OnOk result (AreSafeOperators (R.context context.now.resources.now) context.now.types
+    requires { IsStarting (R.context body.now.context.now.resources.now) (state v.old) }
+    ensures accepted { OnOk result (AreSafeOperators (R.context body.now.context.now.resources.now) body.now.context.now.types
         (may_stand None) (state v.old) code.now.left) }
-    ensures fault { IfErr result (ReachFault (R.context context.now.resources.now) context.now.types
-        (may_stand None) (state v.old) code.now.left) }
+    ensures fault { IfErr result (ReachFault (R.context body.now.context.now.resources.now) body.now.context.now.types
+        (may_stand None) body.now.end (state v.old) code.now.left) }
 {
     let mut refusal = None;
     let mut reader = code.duplicate();
     for _ in 0..code.bytes_left() {
-        if !is_next_accepted(v, context, &mut reader, lists, &mut refusal) {
+        if !is_next_accepted(v, body, &mut reader, lists, &mut refusal) {
             return Err(match refusal {
                 Some(error) => error,
-                None => unclosed(reader.offset()),
+                None => unclosed(body.offset_of(&reader)),
             });
         }
         if v.control_stack_height() == 0 {
-            return check_end(reader);
+            let end = body.offset_of(&reader);
+            return check_end(reader, end);
         }
     }
-    Err(unclosed(reader.offset()))
+    Err(unclosed(body.offset_of(&reader)))
 }
 
 /// Reads operators up to the end of the bytes, and checks each by the validator of their body, which starts.
@@ -228,19 +258,19 @@ fn check_function_operators<R: WasmModuleResources>(
 /// body; in a constant expression, one that isn't constant; and, at the end, a body that is open.
 pub(crate) fn check_operators<R: WasmModuleResources>(
     v: &mut OperatorValidator,
-    context: &BodyContext<'_, R>,
+    body: &OpenBody<'_, '_, R>,
     reader: &mut BinaryReader<'_>,
     lists: &mut OperatorLists,
 ) -> Result<(), CheckError>
-    requires { IsStarting (R.context context.now.resources.now) (state v.old) }
-    ensures accepted { OnOk result (AreSafeOperators (R.context context.now.resources.now) context.now.types
-        (may_stand context.now.constant) (state v.old) reader.old.left) }
-    ensures fault { IfErr result (ReachFault (R.context context.now.resources.now) context.now.types
-        (may_stand context.now.constant) (state v.old) reader.old.left) }
+    requires { IsStarting (R.context body.now.context.now.resources.now) (state v.old) }
+    ensures accepted { OnOk result (AreSafeOperators (R.context body.now.context.now.resources.now) body.now.context.now.types
+        (may_stand body.now.context.now.constant) (state v.old) reader.old.left) }
+    ensures fault { IfErr result (ReachFault (R.context body.now.context.now.resources.now) body.now.context.now.types
+        (may_stand body.now.context.now.constant) body.now.end (state v.old) reader.old.left) }
 {
-    match context.constant {
-        None => check_function_operators(v, context, reader, lists),
-        Some(place) => check_constant_operators(v, context, reader, lists, place),
+    match body.context.constant {
+        None => check_function_operators(v, body, reader, lists),
+        Some(place) => check_constant_operators(v, body, reader, lists, place),
     }
 }
 
@@ -258,7 +288,7 @@ fn is_accepted_by_check<R: WasmModuleResources>(
         (Ok tt) (state v.new) }
     ensures told { result ≡ false → IsSome refusal.new }
     ensures refused { result ≡ false → IfSome refusal.new (IsRefusedFor
-        (RowFails (step_body (R.context resources.now) (λ cx. operator cx op.now) (state v.old)))) }
+        (RowFails (step_body (R.context resources.now) (λ cx. operator cx op.now) (state v.old))) offset) }
 {
     match v.check_slowly(resources, offset, op) {
         Ok(()) => true,
@@ -284,7 +314,7 @@ fn is_accepted<R: WasmModuleResources>(
         (Ok tt) (state v.new) }
     ensures told { result ≡ false → IsSome refusal.new }
     ensures refused { result ≡ false → IfSome refusal.new (IsRefusedFor
-        (RowFails (step_body (R.context resources.now) (λ cx. operator cx op.now) (state v.old)))) }
+        (RowFails (step_body (R.context resources.now) (λ cx. operator cx op.now) (state v.old))) offset) }
 {
     if v.passes_at_once(resources, op) {
         return true;
@@ -292,15 +322,16 @@ fn is_accepted<R: WasmModuleResources>(
     is_accepted_by_check(v, resources, offset, op, refusal)
 }
 
-/// Whether nothing is left behind the operator that closes a body. It refuses any byte that is, without reading it: no
-/// operator makes such a body valid.
-pub(crate) fn check_end(rest: BinaryReader<'_>) -> Result<(), CheckError>
+/// Whether nothing is left behind the operator that closes a body, at this offset. It refuses any byte that is, without
+/// reading it: no operator makes such a body valid.
+pub(crate) fn check_end(rest: BinaryReader<'_>, offset: u64) -> Result<(), CheckError>
     ensures ended { OnOk result (rest.entry.left ≡ []) }
     ensures refused { OnErr result (rest.entry.left ≢ []) }
     ensures invalid { IfErr result IsInvalid }
+    ensures offset { IfErr result (λ e. error_offset e ≡ offset) }
 {
     if rest.is_at_end() {
         return Ok(());
     }
-    Err(CheckError::refused("operators remaining after end of function", rest.offset()))
+    Err(CheckError::refused("operators remaining after end of function", offset))
 }

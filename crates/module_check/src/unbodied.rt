@@ -1,6 +1,7 @@
 //! A module that has no bodies yet.
 
-ghost use Rattle.std.specs.Prelude.{◌≡◌, ◌≢◌, ◌≤◌, ◌<◌, ◌+◌, ◌^◌, ◌++◌, ℕ, true, drop, length, Some, IfOk, IfErr};
+ghost use Rattle.std.specs.Prelude.{◌≡◌, ◌≢◌, ◌≤◌, ◌<◌, ◌+◌, ◌^◌, ◌++◌, ℕ, true, drop, length, Some, None, option_map, IfOk, OnOk, IfErr, OnErr};
+ghost use Rattle.binary_modules.specs.Sections.{section, section_contents};
 ghost use Rattle.module_rules.specs.Declarations.{declarations_of};
 ghost use Rattle.module_rules.specs.Lookup.{lookup_lists};
 ghost use Rattle.module_rules.specs.Validity.{IsValidModule};
@@ -8,6 +9,7 @@ ghost use Rattle.module_rules.specs.Within.{IsWithin};
 ghost use Rattle.validate_resources.specs.Kept.{declared_lists};
 ghost use Rattle.validate_resources.specs.Lists.{module_of};
 ghost use Rattle.module_check.specs.EmptySections.{number_bytes, list_section, empty_segments, sections_behind};
+ghost use Rattle.module_check.specs.EmptySections.{completed, count_in, functions_in, sections_begun, segments_in};
 ghost use Rattle.module_check.specs.declared.load_refusal.LoadRefusal.TheVariants.{Judged, TooLarge};
 ghost use Rattle.module_check.specs.declared.verdict.Verdict.TheVariants.{Accepted};
 
@@ -30,58 +32,76 @@ pub struct LoadedDeclarations {
     ghost lookup: { module_of (lookup_lists (declarations_of declared)) ≡ Some (declared_lists lists) },
 }
 
-/// More than a module may count: a count above is refused, whatever stands behind.
-const MOST: u32 = 1_000_001;
+/// How many bodies fit into a code section whose size has 28 bits.
+const MOST_FUNCTIONS: u32 = (1 << 28) - 5;
 
-/// How many functions of its own a module declares, and how many data segments it counts.
-#[derive(Clone, Copy)]
-struct Counts {
-    functions: u32,
-    data_segments: u32,
+/// More data segments than a module may have.
+const MOST_SEGMENTS: u32 = 1_000_001;
+
+/// Reads a section: its id, and a reader of its contents.
+#[tactic(auto, unfolding(binary_modules::specs::Parts::sized, binary_modules::specs::Sections::section))]
+fn read_section<'a>(reader: &mut BinaryReader<'a>) -> Result<(u8, BinaryReader<'a>), ReadError>
+    ensures read { IfOk result (λ s. section reader.old.left
+        ≡ Some (record { id = s.0; contents = s.1.left }, reader.new.left)) }
+    ensures refused { OnErr result (section reader.old.left ≡ None) }
+{
+    let id = reader.read_u8()?;
+    let size = reader.read_var_u32()?;
+    let contents = reader.part(size as usize)?;
+    Ok((id, contents))
 }
 
-/// The count that a section's contents begin with, if it isn't more than there can be.
+/// The contents of the first section with this id, if there is one before the first section that can't be read.
+fn contents_of<'a>(bytes: &'a [u8], id: u8) -> Option<BinaryReader<'a>>
+    ensures { option_map (λ r. r.left) result ≡ section_contents id (sections_begun bytes.now) }
+{
+    let mut reader = BinaryReader::new(bytes);
+    let Ok(_header) = reader.read_bytes(8) else {
+        return None;
+    };
+    for _ in 0..reader.bytes_left() {
+        let Ok((this, contents)) = read_section(&mut reader) else {
+            return None;
+        };
+        if this == id {
+            return Some(contents);
+        }
+    }
+    None
+}
+
+/// The count that contents begin with, or 0.
 fn count_in(contents: &BinaryReader<'_>) -> u32
-    ensures { result ≤ MOST }
+    ensures { result ≡ count_in contents.now.left }
 {
     match contents.duplicate().read_var_u32() {
-        Ok(count) => count.min(MOST),
+        Ok(count) => count,
         Err(_) => 0,
     }
 }
 
-/// Notes what a section counts, if it is one of those. There is no function for which there is no byte.
-fn note_counts(id: u8, contents: &BinaryReader<'_>, counts: &mut Counts)
-    requires functions { counts.old.functions ≤ MOST }
-    requires data_segments { counts.old.data_segments ≤ MOST }
-    ensures functions { counts.new.functions ≤ MOST }
-    ensures data_segments { counts.new.data_segments ≤ MOST }
+/// How many functions of its own a module declares that begins so. There is no function for which there is no byte.
+fn function_count(bytes: &[u8]) -> u32
+    ensures count { result ≡ functions_in (section_contents 3 (sections_begun bytes.now)) }
+    ensures most { result ≤ MOST_FUNCTIONS }
 {
-    if id == 3 && count_in(contents) as usize <= contents.bytes_left() {
-        counts.functions = count_in(contents);
-    }
-    if id == 12 {
-        counts.data_segments = count_in(contents);
+    match contents_of(bytes, 3) {
+        Some(contents) if count_in(&contents) as usize <= contents.bytes_left() => {
+            count_in(&contents).min(MOST_FUNCTIONS)
+        }
+        _ => 0,
     }
 }
 
-/// What the sections of a module count, up to the first that can't be read.
-fn counts_in(reader: &mut BinaryReader<'_>, counts: &mut Counts) -> Result<(), ReadError>
-    requires functions { counts.old.functions ≤ MOST }
-    requires data_segments { counts.old.data_segments ≤ MOST }
-    ensures functions { counts.new.functions ≤ MOST }
-    ensures data_segments { counts.new.data_segments ≤ MOST }
+/// How many data segments a module counts that begins so.
+fn segment_count(bytes: &[u8]) -> u32
+    ensures count { result ≡ segments_in (section_contents 12 (sections_begun bytes.now)) }
+    ensures most { result ≤ MOST_SEGMENTS }
 {
-    let _header = reader.read_bytes(8)?;
-    for _ in 0..reader.bytes_left() {
-        if reader.is_at_end() {
-            return Ok(());
-        }
-        let id = reader.read_u8()?;
-        let contents = reader.sized_part()?;
-        note_counts(id, &contents, counts);
+    match contents_of(bytes, 12) {
+        Some(contents) => count_in(&contents).min(MOST_SEGMENTS),
+        None => 0,
     }
-    Ok(())
 }
 
 /// An integer of four bytes (WebAssembly core specification, "Binary Format: Values", integers).
@@ -124,45 +144,41 @@ fn empty_segments(alloc: Global, count: u32) -> Result<Vec<u8>, AllocError>
 
 /// These bytes, and behind them a code section with so many bodies that are empty, and a data section with so many data
 /// segments that are.
-fn with_sections(alloc: Global, bytes: &[u8], counts: Counts) -> Result<Vec<u8>, AllocError>
-    requires functions { counts.functions ≤ MOST }
-    requires data_segments { counts.data_segments ≤ MOST }
-    ensures { IfOk result (λ whole. whole.items
-        ≡ bytes.now ++ sections_behind counts.functions counts.data_segments) }
+fn with_sections(
+    alloc: Global,
+    bytes: &[u8],
+    functions: u32,
+    data_segments: u32,
+) -> Result<Vec<u8>, AllocError>
+    requires functions { functions ≤ MOST_FUNCTIONS }
+    requires data_segments { data_segments ≤ MOST_SEGMENTS }
+    ensures { IfOk result (λ whole. whole.items ≡ bytes.now ++ sections_behind functions data_segments) }
 {
-    let bodies = Vec::from_elem(alloc, 0u8, counts.functions as usize)?;
-    let code = list_section(alloc, 10, counts.functions, &bodies)?;
-    let segments = empty_segments(alloc, counts.data_segments)?;
-    let data = list_section(alloc, 11, counts.data_segments, &segments)?;
+    let bodies = Vec::from_elem(alloc, 0u8, functions as usize)?;
+    let code = list_section(alloc, 10, functions, &bodies)?;
+    let segments = empty_segments(alloc, data_segments)?;
+    let data = list_section(alloc, 11, data_segments, &segments)?;
     let mut whole = Vec::from_slice(alloc, bytes)?;
     whole.extend_from_slice(&code)?;
     whole.extend_from_slice(&data)?;
     Ok(whole)
 }
 
-/// What the sections of a module count.
-fn counts_of(bytes: &[u8]) -> Counts
-    ensures functions { result.functions ≤ MOST }
-    ensures data_segments { result.data_segments ≤ MOST }
+/// These bytes, with as many empty bodies and data segments behind them as they count.
+fn completed(alloc: Global, bytes: &[u8]) -> Result<Vec<u8>, AllocError>
+    ensures { IfOk result (λ whole. whole.items ≡ completed bytes.now) }
 {
-    let mut counts = Counts {
-        functions: 0,
-        data_segments: 0,
-    };
-    match counts_in(&mut BinaryReader::new(bytes), &mut counts) {
-        // What can't be read is refused where all is read.
-        Ok(()) | Err(_) => counts,
-    }
+    with_sections(alloc, bytes, function_count(bytes), segment_count(bytes))
 }
 
 impl LoadedDeclarations {
     ghost use Rattle.binary_operators.specs.Vectors.{BeginVector};
-    ghost use Rattle.module_check.specs.Unbodied.{BeginsModule, DeclaresInModule, declared_by, features_of, context_in};
+    ghost use Rattle.module_check.specs.Unbodied.{DeclaresInModule, declared_by, features_of, context_in};
     ghost use Rattle.module_check.specs.Unbodied.{AreTypesIn};
     ghost use Rattle.binary_modules.specs.Modules.{IsNoModule};
-    ghost use Rattle.module_check.specs.Decoded.{AreTooLarge};
-    ghost use Rattle.module_check.specs.Unloaded.{AreUnloaded, Completed};
-    ghost use Rattle.module_check.specs.declared.verdict.Verdict.TheVariants.{Refused, Malformed, NotCovered};
+    ghost use Rattle.module_check.specs.Decoded.{AreTooLarge, DeclareValid};
+    ghost use Rattle.module_check.specs.Unloaded.{AreUnloaded};
+    ghost use Rattle.module_check.specs.declared.verdict.Verdict.TheVariants.{Refused, Malformed, NotCovered, OutOfMemory};
     ghost use Rattle.validate_types.specs.declared.error.Error.{Error};
     ghost use Rattle.module_rules.specs.Features.{operator_features};
     ghost use Rattle.validate_resources.specs.Lists.{context_of};
@@ -170,27 +186,32 @@ impl LoadedDeclarations {
 
     /// Reads a module that has no bodies yet, of which these are all the bytes: one that ends before its code section, or
     /// has none. What it declares is checked as by [`LoadedModule::new`], whose errors these are, but for two things: there
-    /// needn't be a body for each function, nor as many data segments as are counted. The bytes aren't kept.
+    /// needn't be a body for each function, nor as many data segments as are counted. So it is checked with empty ones
+    /// behind it, and loads exactly the bytes that are then those of a module whose declarations are valid and within the
+    /// limits, unless memory runs out. The bytes aren't kept.
     pub fn new(
         alloc: Global,
         bytes: &[u8],
         features: ModuleFeatures,
     ) -> Result<LoadedDeclarations, LoadRefusal>
-        ensures read { IfOk result (λ d. BeginsModule bytes.now (declared_by d)) }
+        ensures read { IfOk result (λ d. DeclaresInModule (completed bytes.now) (declared_by d)) }
         ensures features { IfOk result (λ d. features_of d ≡ features) }
+        ensures valid { OnOk result (DeclareValid features (completed bytes.now)) }
+        ensures complete { IfErr result (λ refusal. DeclareValid features (completed bytes.now)
+            → refusal ≡ Judged OutOfMemory) }
         ensures refused { IfErr result (λ refusal. refusal ≢ Judged Accepted) }
         ensures proposal { IfErr result (λ refusal. (offset : ℕ) → refusal ≡ Judged (NotCovered offset)
             → has (operator_features features) simd ≡ true) }
         ensures uncovered { IfErr result (λ refusal. (offset : ℕ) → refusal ≡ Judged (NotCovered offset)
             → BeginVector (drop offset bytes.now)) }
         ensures malformed { IfErr result (λ refusal. (e : Error) → refusal ≡ Judged (Malformed e)
-            → Completed IsNoModule bytes.now) }
+            → IsNoModule (completed bytes.now)) }
         ensures invalid { IfErr result (λ refusal. (e : Error) → refusal ≡ Judged (Refused e)
-            → Completed (AreUnloaded features) bytes.now) }
+            → AreUnloaded features (completed bytes.now)) }
         ensures too_large { IfErr result (λ refusal. (e : Error) → refusal ≡ TooLarge e
-            → Completed AreTooLarge bytes.now) }
+            → AreTooLarge (completed bytes.now)) }
     {
-        let Ok(whole) = with_sections(alloc, bytes, counts_of(bytes)) else {
+        let Ok(whole) = completed(alloc, bytes) else {
             return Err(LoadRefusal::Judged(Verdict::OutOfMemory));
         };
         match LoadedDeclarations::of_whole(alloc, &whole, features) {
@@ -208,6 +229,8 @@ impl LoadedDeclarations {
     ) -> Result<LoadedDeclarations, LoadRefusal>
         ensures read { IfOk result (λ d. DeclaresInModule whole.now (declared_by d)) }
         ensures features { IfOk result (λ d. features_of d ≡ features) }
+        ensures valid { OnOk result (DeclareValid features whole.now) }
+        ensures complete { IfErr result (λ refusal. DeclareValid features whole.now → refusal ≡ Judged OutOfMemory) }
         ensures refused { IfErr result (λ refusal. refusal ≢ Judged Accepted) }
         ensures proposal { IfErr result (λ refusal. (offset : ℕ) → refusal ≡ Judged (NotCovered offset)
             → has (operator_features features) simd ≡ true) }

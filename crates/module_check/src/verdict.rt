@@ -4,8 +4,8 @@ ghost use Rattle.std.specs.Prelude.{◌≡◌, ◌≢◌, ◌↔◌, ◌⊎◌, 
 ghost use Rattle.binary_operators.specs.Vectors.{BeginVector};
 ghost use Rattle.binary_operators.specs.declared.error.Cause.TheVariants.{Malformed as OfFault, OutOfMemory as NoMemory, VectorOperator};
 ghost use Rattle.binary_operators.specs.declared.error.Fault.{Fault};
-ghost use Rattle.module_check.specs.Refusals.{IsRefusal, IsInvalid, IsMalformed, IsVector};
-ghost use Rattle.module_check.specs.Verdicts.{kind_of, index_of};
+ghost use Rattle.module_check.specs.Refusals.{IsRefusal, IsInvalid, IsMalformed, IsVector, error_offset};
+ghost use Rattle.module_check.specs.Verdicts.{kind_of, index_of, verdict_offset};
 ghost use Rattle.module_check.specs.declared.verdict.Verdict.TheVariants.{Accepted, Refused, Malformed, NotCovered, OutOfMemory};
 ghost use Rattle.validate_types.specs.Features.{has, simd};
 ghost use Rattle.validate_types.specs.declared.error.Error.{Error};
@@ -113,7 +113,8 @@ pub enum CheckError {
 impl CheckError {
     /// A refusal with this text, at the offset.
     pub(crate) fn refused(message: &'static str, offset: u64) -> CheckError
-        ensures { IsInvalid result }
+        ensures invalid { IsInvalid result }
+        ensures offset { error_offset result ≡ offset }
     {
         CheckError::Refused(Error::new(message, offset))
     }
@@ -157,6 +158,7 @@ impl Verdict {
         ensures refused { result ≢ Accepted → result ≢ OutOfMemory → IfErr checked IsRefusal }
         ensures uncovered { (offset : ℕ) → result ≡ NotCovered offset → IfErr checked IsVector }
         ensures malformed { (e : Error) → result ≡ Malformed e → IfErr checked IsMalformed }
+        ensures offset { result ≢ OutOfMemory → IfErr checked (λ e. error_offset e ≡ verdict_offset result) }
     {
         match checked {
             Ok(()) => Verdict::Accepted,
@@ -171,6 +173,7 @@ impl Verdict {
         ensures refused { result ≢ Accepted → result ≢ OutOfMemory → IfErr checked IsRefusal }
         ensures uncovered { (offset : ℕ) → result ≡ NotCovered offset → IfErr checked IsVector }
         ensures malformed { (e : Error) → result ≡ Malformed e → IfErr checked IsMalformed }
+        ensures offset { result ≢ OutOfMemory → IfErr checked (λ e. error_offset e ≡ verdict_offset result) }
     {
         match checked {
             Ok(()) => Verdict::Accepted,
@@ -184,6 +187,7 @@ impl Verdict {
         ensures not_accepted { result ≢ Accepted }
         ensures refused { (e : Error) → result ≡ Refused e → refusal.wants_memory ≡ false }
         ensures memory { result ≢ OutOfMemory → refusal.wants_memory ≡ false }
+        ensures offset { result ≢ OutOfMemory → refusal.offset ≡ verdict_offset result }
         ensures covered { (offset : ℕ) → result ≢ NotCovered offset }
         ensures malformed { (e : Error) → result ≢ Malformed e }
     {
@@ -195,7 +199,9 @@ impl Verdict {
     }
 
     /// The offset that it tells, or 0.
-    pub fn offset(&self) -> u64 {
+    pub fn offset(&self) -> u64
+        ensures { result ≡ verdict_offset self.now }
+    {
         match self {
             Verdict::Refused(refusal) | Verdict::Malformed(refusal) => refusal.offset(),
             Verdict::NotCovered(offset) => *offset,
@@ -236,6 +242,7 @@ impl Verdict {
         ensures proposal { (offset : ℕ) → result ≡ NotCovered offset → has features.now simd ≡ true }
         ensures same { has features.now simd ≡ true → result ≡ self }
         ensures malformed { (e : Error) → result ≡ Malformed e → self ≡ Malformed e }
+        ensures offset { verdict_offset result ≡ verdict_offset self }
     {
         match self {
             Verdict::NotCovered(offset) if !features.simd() => {
@@ -269,6 +276,7 @@ impl Verdict {
     /// format, but not valid: an index of 2^20 or more, and several supertypes.
     fn of_fault(fault: Fault, refusal: Error) -> Verdict
         ensures not_accepted { result ≢ Accepted }
+        ensures offset { verdict_offset result ≡ refusal.offset }
         ensures memory { result ≢ OutOfMemory }
         ensures covered { (offset : ℕ) → result ≢ NotCovered offset }
     {
@@ -284,6 +292,7 @@ impl Verdict {
         ensures memory { result ≢ OutOfMemory → error.cause ≢ NoMemory }
         ensures uncovered { (offset : ℕ) → result ≡ NotCovered offset → error.cause ≡ VectorOperator }
         ensures malformed { (e : Error) → result ≡ Malformed e → (fault : Fault) × (error.cause ≡ OfFault fault) }
+        ensures offset { result ≢ OutOfMemory → error.offset ≡ verdict_offset result }
     {
         match error.cause {
             Cause::Malformed(fault) => {
@@ -300,6 +309,7 @@ impl Verdict {
         ensures memory { result ≢ OutOfMemory → error.cause ≢ NoMemory }
         ensures uncovered { (offset : ℕ) → result ≡ NotCovered offset → error.cause ≡ VectorOperator }
         ensures malformed { (e : Error) → result ≡ Malformed e → (fault : Fault) × (error.cause ≡ OfFault fault) }
+        ensures offset { result ≢ OutOfMemory → error.offset ≡ verdict_offset result }
     {
         match error.cause {
             Cause::Malformed(fault) if fault.has_number() => {

@@ -33,7 +33,8 @@ pub fn check_function(
         ⊎ IsUncoveredFunction module.now function }
     ensures malformed { out.new.status ≡ 2 → (out.old.status ≡ 2)
         ⊎ IsMalformedFunction module.now function }
-    ensures invalid { out.new.status ≡ 1 → (out.old.status ≡ 1) ⊎ IsRefusedFunction module.now function }
+    ensures invalid { out.new.status ≡ 1 → (out.old.status ≡ 1)
+        ⊎ IsRefusedFunction module.now function out.new.offset }
 {
     let verdict = module.check_function(function, buffers);
     out.note(&verdict, Some(Item::Function(function)), text);

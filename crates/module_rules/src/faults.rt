@@ -193,7 +193,9 @@ pub struct Located {
 
 impl RuleFault {
     /// The fault, of the declaration at this offset.
-    pub fn at(self, offset: u64) -> LocatedRule {
+    pub fn at(self, offset: u64) -> LocatedRule
+        ensures { result.offset ≡ offset }
+    {
         LocatedRule {
             fault: self,
             offset,

@@ -250,7 +250,9 @@ impl Wording {
         }
     }
     /// The error with this text, at this offset. It takes memory for a text that is made of parts.
-    fn error(self, alloc: Global, offset: u64) -> Error {
+    fn error(self, alloc: Global, offset: u64) -> Error
+        ensures { result.offset ≡ offset }
+    {
         match self {
             Wording::Fixed(text) => Error::new(text, offset),
             parts => Error::from_text(parts.made(alloc), offset),
@@ -260,7 +262,9 @@ impl Wording {
 
 impl LocatedRule {
     /// The error of the declaration, at its offset. It takes memory for a text that is made of parts.
-    pub fn error(self, alloc: Global) -> Error {
+    pub fn error(self, alloc: Global) -> Error
+        ensures { result.offset ≡ self.offset }
+    {
         self.fault.wording().error(alloc, self.offset)
     }
 }

@@ -1,14 +1,12 @@
--- What an outcome says of a module, by what was found of its items, or by why it wasn't read.
-use Rattle.std.proofs.Common.{◌≡◌, ◌≢◌, ◌⊎◌, ◌<◌, ℕ, inl, inr, refl, sym, ◌∙◌, subst, Result, Ok, Err, IfOk, List}
+-- What an outcome says of a module, by what was found of its items.
+use Rattle.std.proofs.Common.{◌≡◌, ◌⊎◌, ◌<◌, ℕ, inl, inr, refl, sym, subst, Result, Ok, Err, IfOk, List}
+use Rattle.module_check.specs.Decoded.{AreNoValidModule, AreValidModule}
 use Rattle.module_check.specs.FaultyModule.{IsInvalidAt, IsMalformedAt}
 use Rattle.module_check.specs.Items.{item_count}
-use Rattle.module_check.specs.Decoded.{AreTooLarge}
-use Rattle.module_check.specs.Loaded.{bytes_of, features_of}
-use Rattle.module_check.specs.Outcomes.{HasFound, IsFoundAt}
-use Rattle.module_check.specs.UncoveredModule.{AreUncovered, HasVectorIn, IsUncoveredAt}
-use Rattle.module_check.specs.Unloaded.{AreInvalid, AreUnloaded}
+use Rattle.module_check.specs.Loaded.{IsValid, bytes_of, features_of}
+use Rattle.module_check.specs.Outcomes.{AreSo, HasFound, IsFoundAt}
+use Rattle.module_check.specs.UncoveredModule.{IsUncoveredAt}
 use Rattle.module_check.specs.Verdicts.{outcome_of}
-use Rattle.module_check.specs.declared.load_refusal.LoadRefusal.TheVariants.{Judged}
 use Rattle.module_check.specs.declared.loaded.LoadedModule.{LoadedModule}
 use Rattle.module_check.specs.declared.outcome.Outcome.{Outcome}
 use Rattle.module_check.specs.declared.outcome.Outcome.TheVariants.{Valid, Invalid, NotCovered, TooLarge}
@@ -17,8 +15,10 @@ use Rattle.module_check.specs.declared.outcome.Outcome.TheVariants.{Unreadable, 
 use Rattle.module_check.specs.declared.verdict.Verdict.{Verdict}
 use Rattle.module_check.specs.declared.verdict.Verdict.TheVariants.{Accepted, Refused, Malformed, OutOfMemory}
 use Rattle.module_check.specs.declared.verdict.Verdict.TheVariants.{NotCovered as Uncovered}
+use Rattle.module_check.proofs.Outcomes.{complete_found, no_valid_so, so_found}
 use Rattle.module_rules.specs.declared.features.ModuleFeatures.{ModuleFeatures}
 use Rattle.validate_types.specs.declared.error.Error.{Error}
+use Rattle.wasmcheck.specs.declared.module.CheckedModule.{CheckedModule}
 
 -- what is found of one item is found of the module
 pub found_in : (m : LoadedModule) (place : ℕ) (o : Outcome) → place < item_count m → IsFoundAt m place o → HasFound m o
@@ -50,48 +50,25 @@ now_found m place before now v either u x i =
 pub found_since : (m : LoadedModule) (first before now : Outcome) → (before ≡ first) ⊎ HasFound m before → (now ≡ before) → (now ≡ first) ⊎ HasFound m now
 found_since m first before now found same = subst (λ (o : Outcome). (o ≡ first) ⊎ HasFound m o) (sym same) found
 
--- where nothing was found at first
-pub found_at_last : (m : LoadedModule) (now : Outcome) → (now ≡ Valid) ⊎ HasFound m now → HasFound m now
+-- where nothing was found before
+found_at_last : (m : LoadedModule) (now : Outcome) → (now ≡ Valid) ⊎ HasFound m now → HasFound m now
 found_at_last m now found = elim found [ inl valid ↦ subst (λ (o : Outcome). HasFound m o) (sym valid) tt | inr this ↦ this ]
 
-pub found_anew : {E : Type 0} → (m : LoadedModule) (first : Outcome) (r : Result Outcome E) → first ≡ Valid → IfOk r (λ o. o ≢ IsMalformed → (o ≡ first) ⊎ HasFound m o) → IfOk r (λ o. o ≢ IsMalformed → HasFound m o)
-found_anew m first (Ok o) valid found = λ other. found_at_last m o (subst (λ (f : Outcome). (o ≡ f) ⊎ HasFound m o) valid (found other))
+-- where nothing was found at first
+pub found_anew : {E : Type 0} → (m : LoadedModule) (first : Outcome) (r : Result CheckedModule E) → first ≡ Valid → IfOk r (λ k. (k.outcome ≡ first) ⊎ HasFound m k.outcome) → IfOk r (λ k. HasFound m k.outcome)
+found_anew m first (Ok k) valid found = found_at_last m k.outcome (subst (λ (f : Outcome). (k.outcome ≡ f) ⊎ HasFound m k.outcome) valid found)
 found_anew m first (Err e) valid found = found
 
--- the module that was read of the bytes is so
-pub is_invalid : {E : Type 0} → (m : LoadedModule) (features : ModuleFeatures) (bytes : List ℕ) (r : Result Outcome E) → bytes_of m ≡ bytes → features_of m ≡ features → IfOk r (λ o. o ≢ IsMalformed → HasFound m o) → IfOk r (λ o. o ≡ Invalid → AreInvalid features bytes)
-is_invalid m features bytes (Ok o) b f found = λ is. inr (record {
-  loaded = m;
-  of_bytes = b;
-  under = f;
-  has_invalid = subst (λ (o : Outcome). HasFound m o) is (found (λ other. let e : Invalid ≡ IsMalformed = sym is ∙ other in absurd cc));
-})
-is_invalid m features bytes (Err e) b f found = found
+-- ---- the module that was read of the bytes is so
 
-pub is_uncovered : {E : Type 0} → (m : LoadedModule) (features : ModuleFeatures) (bytes : List ℕ) (r : Result Outcome E) → bytes_of m ≡ bytes → features_of m ≡ features → IfOk r (λ o. o ≢ IsMalformed → HasFound m o) → IfOk r (λ o. o ≡ NotCovered → AreUncovered features bytes)
-is_uncovered m features bytes (Ok o) b f found = λ is. inl (record {
-  loaded = m;
-  of_bytes = b;
-  under = f;
-  has_uncovered = subst (λ (o : Outcome). HasFound m o) is (found (λ other. let e : NotCovered ≡ IsMalformed = sym is ∙ other in absurd cc));
-})
-is_uncovered m features bytes (Err e) b f found = found
+pub so_checked : {E : Type 0} → (m : LoadedModule) (features : ModuleFeatures) (bytes : List ℕ) → bytes_of m ≡ bytes → features_of m ≡ features → (r : Result CheckedModule E) → IfOk r (λ k. k.outcome ≡ Valid → IsValid m) → IfOk r (λ k. HasFound m k.outcome) → IfOk r (λ k. AreSo features bytes k.outcome)
+so_checked m features bytes b f (Ok k) valid found = so_found m features bytes b f k.outcome valid found
+so_checked m features bytes b f (Err e) valid found = found
 
-pub never_too_large : {E : Type 0} → (m : LoadedModule) (bytes : List ℕ) (r : Result Outcome E) → IfOk r (λ o. o ≢ IsMalformed → HasFound m o) → IfOk r (λ o. o ≡ TooLarge → AreTooLarge bytes)
-never_too_large m bytes (Ok o) found = λ is. absurd (subst (λ (o : Outcome). HasFound m o) is (found (λ other. let e : TooLarge ≡ IsMalformed = sym is ∙ other in absurd cc)))
-never_too_large m bytes (Err e) found = found
+pub complete_checked : {E : Type 0} → (m : LoadedModule) (features : ModuleFeatures) (bytes : List ℕ) → bytes_of m ≡ bytes → features_of m ≡ features → (r : Result CheckedModule E) → IfOk r (λ k. HasFound m k.outcome) → IfOk r (λ k. AreValidModule features bytes → (k.outcome ≡ Valid) ⊎ (k.outcome ≡ IsOutOfMemory))
+complete_checked m features bytes b f (Ok k) found = complete_found m features bytes b f k.outcome found
+complete_checked m features bytes b f (Err e) found = found
 
--- the verdict on bytes that weren't read says so
-pub refused_invalid : (v : Verdict) (o : Outcome) (features : ModuleFeatures) (bytes : List ℕ) → ((e : Error) → Judged v ≡ Judged (Refused e) → AreUnloaded features bytes) → o ≡ outcome_of v → o ≡ Invalid → AreInvalid features bytes
-refused_invalid (Refused e) o features bytes u s is = inl (u e refl)
-refused_invalid Accepted o features bytes u s is = let e : Valid ≡ Invalid = sym s ∙ is in absurd cc
-refused_invalid (Malformed e) o features bytes u s is = let e : IsMalformed ≡ Invalid = sym s ∙ is in absurd cc
-refused_invalid (Uncovered offset) o features bytes u s is = let e : NotCovered ≡ Invalid = sym s ∙ is in absurd cc
-refused_invalid OutOfMemory o features bytes u s is = let e : IsOutOfMemory ≡ Invalid = sym s ∙ is in absurd cc
-
-pub refused_uncovered : (v : Verdict) (o : Outcome) (features : ModuleFeatures) (bytes : List ℕ) → ((offset : ℕ) → Judged v ≡ Judged (Uncovered offset) → HasVectorIn features bytes) → o ≡ outcome_of v → o ≡ NotCovered → AreUncovered features bytes
-refused_uncovered (Uncovered offset) o features bytes u s is = inr (u offset refl)
-refused_uncovered Accepted o features bytes u s is = let e : Valid ≡ NotCovered = sym s ∙ is in absurd cc
-refused_uncovered (Malformed e) o features bytes u s is = let e : IsMalformed ≡ NotCovered = sym s ∙ is in absurd cc
-refused_uncovered (Refused e) o features bytes u s is = let e : Invalid ≡ NotCovered = sym s ∙ is in absurd cc
-refused_uncovered OutOfMemory o features bytes u s is = let e : IsOutOfMemory ≡ NotCovered = sym s ∙ is in absurd cc
+pub no_valid_checked : {E : Type 0} → (features : ModuleFeatures) (bytes : List ℕ) (r : Result CheckedModule E) → IfOk r (λ k. AreSo features bytes k.outcome) → IfOk r (λ k. (k.outcome ≡ Invalid) ⊎ (k.outcome ≡ IsMalformed) → AreNoValidModule features bytes)
+no_valid_checked features bytes (Ok k) so = no_valid_so features bytes k.outcome so
+no_valid_checked features bytes (Err e) so = so

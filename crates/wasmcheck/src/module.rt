@@ -1,13 +1,11 @@
 //! The check of one module.
 
-ghost use Rattle.std.specs.Prelude.{◌≡◌, ◌≢◌, ◌⊎◌, IfOk, OnOk};
+ghost use Rattle.std.specs.Prelude.{◌≡◌, ◌⊎◌, IfOk, OnOk};
 ghost use Rattle.module_check.specs.Items.{AreSafeBelow, IsSafeAt, item_count};
-ghost use Rattle.module_check.specs.Decoded.{AreNoValidModule, AreTooLarge, AreValidModule};
+ghost use Rattle.module_check.specs.Decoded.{AreNoValidModule, AreValidModule};
 ghost use Rattle.module_check.specs.Loaded.{IsValid};
-ghost use Rattle.module_check.specs.Outcomes.{HasFound, IsFoundAt};
-ghost use Rattle.module_check.specs.UncoveredModule.{AreUncovered};
-ghost use Rattle.module_check.specs.Unloaded.{AreInvalid};
-ghost use Rattle.module_check.specs.declared.outcome.Outcome.TheVariants.{Valid, Invalid, Malformed, NotCovered, TooLarge};
+ghost use Rattle.module_check.specs.Outcomes.{AreSo, HasFound, IsFoundAt, outcome_of_load};
+ghost use Rattle.module_check.specs.declared.outcome.Outcome.TheVariants.{Valid, Invalid, Malformed, OutOfMemory};
 
 use crate::explain::{Asked, refusal_of, shown_of};
 use crate::lines::{Finding, Lines};
@@ -41,6 +39,27 @@ pub struct CheckOptions<'o> {
     pub traced: Option<&'o [u8]>,
     /// The proposals that are on.
     pub features: ModuleFeatures,
+}
+
+/// What the check of a module comes to.
+#[derive(Clone, Copy)]
+pub struct CheckedModule {
+    /// What the module comes to.
+    pub outcome: Outcome,
+    /// Whether the operators of a function are asked for, and none with a body has that name or index.
+    pub lacks_traced: bool,
+}
+
+impl CheckedModule {
+    /// A module that comes to this before a function is looked for.
+    fn before_items(outcome: Outcome) -> CheckedModule
+        ensures { result.outcome ≡ outcome }
+    {
+        CheckedModule {
+            outcome,
+            lacks_traced: false,
+        }
+    }
 }
 
 /// Whether a word is this index.
@@ -230,10 +249,8 @@ impl<'m> ModuleCheck<'_, 'm, '_> {
         Ok(())
     }
 
-    /// Says that no function has the name or the index that is asked for, if so, and answers what that comes to.
-    fn traced_outcome(&self, rt: &HostRuntime, has_traced: bool) -> io::Result<Outcome>
-        ensures { IfOk result (λ outcome. (outcome ≡ Valid) ⊎ (outcome ≡ Malformed)) }
-    {
+    /// Whether no function has the name or the index that is asked for. If so, it is said.
+    fn lacks_traced(&self, rt: &HostRuntime, has_traced: bool) -> io::Result<bool> {
         match self.options.traced {
             Some(word) if !has_traced => {
                 let mut message = begun_message(self.options.lines);
@@ -241,9 +258,9 @@ impl<'m> ModuleCheck<'_, 'm, '_> {
                 add_word(&mut message, word);
                 message.add("\n");
                 message.write_to(&mut rt.stderr())?;
-                Ok(Outcome::Malformed)
+                Ok(true)
             }
-            _ => Ok(Outcome::Valid),
+            _ => Ok(false),
         }
     }
 }
@@ -275,10 +292,10 @@ fn check_named<W: Write>(
     out: &mut W,
     check: &ModuleCheck<'_, '_, '_>,
     progress: &mut Progress,
-) -> io::Result<Outcome>
-    ensures valid { IfOk result (λ outcome. outcome ≡ Valid → IsValid check.now.module.now) }
-    ensures found { IfOk result (λ outcome. outcome ≢ Malformed → (outcome ≡ progress.old.tally.outcome)
-        ⊎ HasFound check.now.module.now outcome) }
+) -> io::Result<CheckedModule>
+    ensures valid { IfOk result (λ checked. checked.outcome ≡ Valid → IsValid check.now.module.now) }
+    ensures found { IfOk result (λ checked. (checked.outcome ≡ progress.old.tally.outcome)
+        ⊎ HasFound check.now.module.now checked.outcome) }
 {
     check.check_items(rt, out, progress)?;
     write_tally(
@@ -287,8 +304,11 @@ fn check_named<W: Write>(
         check.options.detail,
         progress.tally,
     )?;
-    let traced = check.traced_outcome(rt, progress.has_traced)?;
-    Ok(progress.tally.outcome.or(traced))
+    let lacks_traced = check.lacks_traced(rt, progress.has_traced)?;
+    Ok(CheckedModule {
+        outcome: progress.tally.outcome,
+        lacks_traced,
+    })
 }
 
 /// Checks a module of which nothing is checked yet.
@@ -296,9 +316,9 @@ fn check_anew<W: Write>(
     rt: &HostRuntime,
     out: &mut W,
     check: &ModuleCheck<'_, '_, '_>,
-) -> io::Result<Outcome>
-    ensures valid { IfOk result (λ outcome. outcome ≡ Valid → IsValid check.now.module.now) }
-    ensures found { IfOk result (λ outcome. outcome ≢ Malformed → HasFound check.now.module.now outcome) }
+) -> io::Result<CheckedModule>
+    ensures valid { IfOk result (λ checked. checked.outcome ≡ Valid → IsValid check.now.module.now) }
+    ensures found { IfOk result (λ checked. HasFound check.now.module.now checked.outcome) }
 {
     let mut progress = Progress {
         buffers: BodyBuffers::new(rt.alloc()),
@@ -314,9 +334,9 @@ fn check_module<W: Write>(
     out: &mut W,
     options: CheckOptions<'_>,
     module: &LoadedModule<'_>,
-) -> io::Result<Outcome>
-    ensures valid { IfOk result (λ outcome. outcome ≡ Valid → IsValid module.now) }
-    ensures found { IfOk result (λ outcome. outcome ≢ Malformed → HasFound module.now outcome) }
+) -> io::Result<CheckedModule>
+    ensures valid { IfOk result (λ checked. checked.outcome ≡ Valid → IsValid module.now) }
+    ensures found { IfOk result (λ checked. HasFound module.now checked.outcome) }
 {
     match module.names(rt.alloc()) {
         Ok(names) => {
@@ -329,35 +349,48 @@ fn check_module<W: Write>(
         }
         Err(_) => {
             let refused = write_module(out, options.lines, options.detail, &Verdict::OutOfMemory)?;
-            Ok(refused)
+            Ok(CheckedModule::before_items(refused))
         }
     }
 }
 
-/// Checks the module of these bytes, and writes and answers what it comes to: that it is valid, invalid, not covered or too
-/// large, only if it is. It answers *malformed* also where no function has the name or the index that is asked for.
+/// Writes why bytes aren't read as a module's, or that what they declare is past a limit, and answers what that comes to.
+fn write_unloaded<W: Write>(
+    out: &mut W,
+    options: CheckOptions<'_>,
+    refusal: LoadRefusal,
+) -> io::Result<Outcome>
+    ensures { IfOk result (λ outcome. outcome ≡ outcome_of_load refusal) }
+{
+    match refusal {
+        LoadRefusal::Judged(verdict) => {
+            write_module(out, options.lines, options.detail, &verdict)
+        }
+        LoadRefusal::TooLarge(error) => {
+            write_too_large(out, options.lines, options.detail, error)
+        }
+    }
+}
+
+/// Checks the module of these bytes, and writes and answers what it comes to. They are what that says; and of those of a
+/// valid module it is *valid*, unless memory runs out.
 pub fn check_bytes<W: Write>(
     rt: &HostRuntime,
     out: &mut W,
     options: CheckOptions<'_>,
     bytes: &[u8],
-) -> io::Result<Outcome>
-    ensures valid { IfOk result (λ outcome. outcome ≡ Valid → AreValidModule options.entry.features bytes.now) }
-    ensures refused { IfOk result (λ outcome. outcome ≡ Invalid
+) -> io::Result<CheckedModule>
+    ensures so { IfOk result (λ checked. AreSo options.entry.features bytes.now checked.outcome) }
+    ensures complete { IfOk result (λ checked. AreValidModule options.entry.features bytes.now
+        → (checked.outcome ≡ Valid) ⊎ (checked.outcome ≡ OutOfMemory)) }
+    ensures refused { IfOk result (λ checked. (checked.outcome ≡ Invalid) ⊎ (checked.outcome ≡ Malformed)
         → AreNoValidModule options.entry.features bytes.now) }
-    ensures invalid { IfOk result (λ outcome. outcome ≡ Invalid → AreInvalid options.entry.features bytes.now) }
-    ensures uncovered { IfOk result (λ outcome. outcome ≡ NotCovered
-        → AreUncovered options.entry.features bytes.now) }
-    ensures too_large { IfOk result (λ outcome. outcome ≡ TooLarge → AreTooLarge bytes.now) }
 {
     match LoadedModule::new(rt.alloc(), bytes, options.features) {
         Ok(module) => check_module(rt, out, options, &module),
-        Err(LoadRefusal::Judged(verdict)) => {
-            let refused = write_module(out, options.lines, options.detail, &verdict)?;
-            Ok(refused)
-        }
-        Err(LoadRefusal::TooLarge(error)) => {
-            write_too_large(out, options.lines, options.detail, error)
+        Err(refusal) => {
+            let outcome = write_unloaded(out, options, refusal)?;
+            Ok(CheckedModule::before_items(outcome))
         }
     }
 }

@@ -2,7 +2,7 @@
 
 use crate::input::read_file;
 use crate::lines::Lines;
-use crate::module::{CheckOptions, begun_message, check_bytes};
+use crate::module::{CheckOptions, CheckedModule, begun_message, check_bytes};
 use crate::options::{Action, Detail, Options, read_options};
 use crate::shown::add_word;
 use crate::usage::{UsageError, add_error, write_help, write_version};
@@ -46,6 +46,16 @@ fn write_warning(rt: &HostRuntime, options: CheckOptions<'_>, input: &[u8]) -> i
     }
 }
 
+/// What a run comes to by a module. A function that is asked for, and isn't there, weighs as much as bytes that aren't a
+/// module's, and has their status: it is that of words that aren't understood, too.
+fn outcome_of_run(checked: CheckedModule) -> Outcome {
+    if checked.lacks_traced {
+        checked.outcome.or(Outcome::Malformed)
+    } else {
+        checked.outcome
+    }
+}
+
 /// Checks the module of these bytes.
 fn check_input<W: Write>(
     rt: &HostRuntime,
@@ -54,7 +64,8 @@ fn check_input<W: Write>(
     input: &[u8],
 ) -> io::Result<Outcome> {
     write_warning(rt, options, input)?;
-    check_bytes(rt, out, options, input)
+    let checked = check_bytes(rt, out, options, input)?;
+    Ok(outcome_of_run(checked))
 }
 
 /// Says that this file can't be read, and why.

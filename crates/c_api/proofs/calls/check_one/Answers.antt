@@ -1,5 +1,6 @@
 -- What is noted is what was found, since nothing was noted before.
-use Rattle.std.proofs.Common.{◌∙◌, sym, inl, inr}
+use Rattle.std.proofs.Common.{◌∙◌, sym, inl, inr, subst}
+use Rattle.module_check.specs.FaultyModule.{IsRefusedFunction}
 use Rattle.c_api.proofs.Answered.{not_both, not_before, not_one_before, not_two_before, no_more_than_five, not_five, five_not_zero}
 use Rattle.c_api.proofs.Answered.{five_not_one, five_not_two, five_not_four, five_known}
 use Rattle.c_api.proofs.Checked.{not_accepted}
@@ -53,7 +54,7 @@ pub returns-then-has_own_body-clause-invalid : goal.returns-then-has_own_body-cl
 returns-then-has_own_body-clause-invalid c = λ one.
     elim (c.note.ensures.invalid one) [
       | inl before ↦ absurd (not_one_before c.args.out.now.status c.requires.first before)
-      | inr this ↦ c.check_function-verdict.ensures.invalid this.0 this.1
+      | inr this ↦ subst (IsRefusedFunction c.args.module.now c.args.function) (sym this.2) (c.check_function-verdict.ensures.invalid this.0 this.1)
     ]
 
 pub returns-else-has_own_body-clause-invalid : goal.returns-else-has_own_body-clause-invalid

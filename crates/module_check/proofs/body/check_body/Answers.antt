@@ -1,10 +1,12 @@
 -- What was checked and accepted is the code of the body; what was refused is none, by its first fault.
-use Rattle.std.proofs.Common.{◌≡◌, ◌∙◌, sym, inl, inr}
+use Rattle.std.proofs.Common.{◌≡◌, ◌∙◌, ap, sym, inl, inr}
 use Rattle.module_check.specs.Constant.{may_stand}
+use Rattle.module_check.specs.Faults.{end_of}
 use Rattle.module_check.specs.Refusals.{IsMalformed, IsRefusal, IsVector}
+use Rattle.module_check.specs.Verdicts.{verdict_offset}
 use Rattle.module_check.specs.declared.verdict.Verdict.TheVariants.{Accepted, Malformed, NotCovered, OutOfMemory, Refused}
 use Rattle.validate_operators.specs.Validator.{state}
-use Rattle.module_check.proofs.Begun.{given_ok, error_of, not_started}
+use Rattle.module_check.proofs.Begun.{given_ok, error_of, both_told, not_started}
 use Rattle.module_check.proofs.FirstFaults.{no_code, vector_there, vector_is_refusal, malformed_is_refusal}
 use Rattle.module_check.proofs.body.check_body.Goals as goal
 
@@ -17,7 +19,7 @@ returns-in-Ok-clause-refused g c = λ refused memory.
     error_of c.check_body_from-checked.result IsRefusal _ (λ ok. refused (c.under.ensures.accepted.1 (c.of_check_in.ensures.accepted.1 ok)))
     (c.of_check_in.ensures.refused (λ a. refused (c.under.ensures.accepted.1 a)) (λ m. memory (c.under.ensures.memory.1 m))) c.check_body_from-checked.ensures.fault
     (λ e refusal f. no_code (g.R.WasmModuleResources.context c.args.context.now.resources.now) c.args.context.now.features.now c.args.context.now.types (may_stand c.args.context.now.constant)
-    c.args.reader.now.left c.args.kind e (f refusal c.args.context.now.features.now c.in-Ok.ensures.made) refusal)
+    (end_of c.args.reader.now) c.args.reader.now.left c.args.kind e (f refusal c.args.context.now.features.now c.in-Ok.ensures.made) refusal)
 
 pub returns-in-Err-clause-refused : goal.returns-in-Err-clause-refused
 returns-in-Err-clause-refused g c = λ refused memory.
@@ -30,7 +32,7 @@ returns-in-Ok-clause-uncovered g c = λ offset uncovered.
     error_of c.check_body_from-checked.result IsVector _ (λ ok. let clash : NotCovered offset ≡ Accepted = sym was ∙ c.of_check_in.ensures.accepted.1 ok in absurd cc)
     (c.of_check_in.ensures.uncovered offset was) c.check_body_from-checked.ensures.fault
     (λ e vector f. vector_there (g.R.WasmModuleResources.context c.args.context.now.resources.now) c.args.context.now.features.now c.args.context.now.types (may_stand c.args.context.now.constant)
-    c.args.reader.now.left c.args.kind e (f (vector_is_refusal e vector) c.args.context.now.features.now c.in-Ok.ensures.made) vector)
+    (end_of c.args.reader.now) c.args.reader.now.left c.args.kind e (f (vector_is_refusal e vector) c.args.context.now.features.now c.in-Ok.ensures.made) vector)
 
 pub returns-in-Ok-clause-malformed : goal.returns-in-Ok-clause-malformed
 returns-in-Ok-clause-malformed g c = λ error malformed.
@@ -44,13 +46,18 @@ returns-in-Err-clause-malformed g c = λ error malformed. absurd (c.of_refusal.e
 
 pub returns-in-Ok-clause-invalid : goal.returns-in-Ok-clause-invalid
 returns-in-Ok-clause-invalid g c = λ error refused.
-    inr (error_of c.check_body_from-checked.result IsRefusal _
-    (λ ok. let clash : Refused error ≡ Accepted = sym refused ∙ c.under.ensures.accepted.1 (c.of_check_in.ensures.accepted.1 ok) in absurd cc)
-    (c.of_check_in.ensures.refused
-    (λ a. let clash : Refused error ≡ Accepted = sym refused ∙ c.under.ensures.accepted.1 a in absurd cc)
-    (λ m. let clash : Refused error ≡ OutOfMemory = sym refused ∙ c.under.ensures.memory.1 m in absurd cc))
-    c.check_body_from-checked.ensures.fault
-    (λ e is f. record { error = e; is_refusal = is; has_fault = f is c.args.context.now.features.now c.in-Ok.ensures.made }))
+    let checked = c.check_body_from-checked in
+    let accepted = λ (a : c.of_check_in.result ≡ Accepted). let clash : Refused error ≡ Accepted = sym refused ∙ c.under.ensures.accepted.1 a in absurd cc in
+    let memory = λ (m : c.of_check_in.result ≡ OutOfMemory). let clash : Refused error ≡ OutOfMemory = sym refused ∙ c.under.ensures.memory.1 m in absurd cc in
+    let offset : verdict_offset c.of_check_in.result ≡ error.offset = sym c.under.ensures.offset ∙ ap verdict_offset refused in
+    inr (error_of checked.result IsRefusal _ (λ ok. accepted (c.of_check_in.ensures.accepted.1 ok)) (c.of_check_in.ensures.refused accepted memory)
+    (both_told checked.result _ _ (c.of_check_in.ensures.offset memory) checked.ensures.fault)
+    (λ e is f. record {
+      error = e;
+      is_refusal = is;
+      is_told = f.0 ∙ offset;
+      has_fault = f.1 is c.args.context.now.features.now c.in-Ok.ensures.made;
+    }))
 
 pub returns-in-Err-clause-invalid : goal.returns-in-Err-clause-invalid
 returns-in-Err-clause-invalid g c = λ error refused. inl (c.in-Err.ensures.refused (c.of_refusal.ensures.refused error refused))

@@ -33,7 +33,7 @@ returns-in_err-check_operators-in-Function-clause-fault g c =
     let p = err_from_is_err_and c.from_residual-in_err-check_operators-in-Function.result c.from_residual-in_err-check_operators-in-Function.ensures.1 in
     rw (p.1, p.2) (λ refusal features starts. inr (
     function_fault (g.R.WasmModuleResources.context c.args.context.now.resources.now) features c.args.context.now.types (may_stand c.args.context.now.constant) (state c.args.v.now) (state c.define_locals.new.v)
-    c.args.reader.now.left c.define_locals.new.reader.left c.args.kind c.in-Function.field-0 _ c.in-Function.is starts c.in_ok-define_locals-in-Function.ensures.defined
+    c.args.reader.now.left c.define_locals.new.reader.left c.args.kind c.in-Function.field-0 _ _ _ c.in-Function.is c.end_of.ensures starts c.in_ok-define_locals-in-Function.ensures.defined
     c.in_err-check_operators-in-Function.ensures.fault))
 
 pub returns-in_err-check_operators-in-Expression-clause-fault : goal.returns-in_err-check_operators-in-Expression-clause-fault
@@ -41,4 +41,4 @@ returns-in_err-check_operators-in-Expression-clause-fault g c =
     let p = err_from_is_err_and c.from_residual-in_err-check_operators-in-Expression.result c.from_residual-in_err-check_operators-in-Expression.ensures.1 in
     rw (p.1, p.2) (λ refusal features starts. inr (
     expression_fault (g.R.WasmModuleResources.context c.args.context.now.resources.now) features c.args.context.now.types (may_stand c.args.context.now.constant) (state c.args.v.now)
-    c.args.reader.now.left c.args.kind c.in-Expression.field-0 _ c.in-Expression.is starts c.in_err-check_operators-in-Expression.ensures.fault))
+    c.args.reader.now.left c.args.kind c.in-Expression.field-0 _ _ _ c.in-Expression.is c.end_of.ensures starts c.in_err-check_operators-in-Expression.ensures.fault))

@@ -37,7 +37,7 @@ returns-in-Some-clause-invalid c error invalid =
     let place = c.args.place in
     let listed = c.expressions-expressions.ensures in
     let found = c.in-Some.ensures.lookup in
-    expression_stands c.args.module.now _ _ place c.in-Some.expression.now (subst (λ n. place < n) (ap length listed) found.3.0) (found.1 ∙ ap (λ es. get_or es place c.in-Some.expression.now) listed) (c.check_expression.ensures.invalid error invalid)
+    expression_stands c.args.module.now _ _ place c.in-Some.expression.now (subst (λ n. place < n) (ap length listed) found.3.0) (found.1 ∙ ap (λ es. get_or es place c.in-Some.expression.now) listed) (error.offset, c.check_expression.ensures.invalid error invalid)
 
 pub returns-in-Some-clause-unaccepted : goal.returns-in-Some-clause-unaccepted
 returns-in-Some-clause-unaccepted c _ refused memory accepted =
@@ -74,7 +74,7 @@ pub returns-in-None-clause-invalid : goal.returns-in-None-clause-invalid
 returns-in-None-clause-invalid c error invalid =
     let place = c.args.place in
     let count = ap length c.expressions-expressions.ensures in
-    body_stands c.args.module.now _ _ place _ _ (subst (λ n. n ≤ place) count c.in-None.ensures.lookup.3) (c.saturating_sub.ensures ∙ ap (λ n. place - n) count) c.function_of-function.ensures (c.check_function.ensures.invalid error invalid)
+    body_stands c.args.module.now _ _ place _ _ (subst (λ n. n ≤ place) count c.in-None.ensures.lookup.3) (c.saturating_sub.ensures ∙ ap (λ n. place - n) count) c.function_of-function.ensures (error.offset, c.check_function.ensures.invalid error invalid)
 
 pub returns-in-None-clause-unaccepted : goal.returns-in-None-clause-unaccepted
 returns-in-None-clause-unaccepted c within refused memory accepted =

@@ -9,6 +9,6 @@ use Rattle.module_check.proofs.operators.check_function_operators.Given as goal
 abbrev pub invariant-loop : goal.invariant-loop
 invariant-loop g l =
     record {
-      so_far : IsOpenBehind (g.R.WasmModuleResources.context l.context.resources.now) l.context.types (may_stand None) (state l.fn.v) (state l.v) l.code.left l.reader.left;
+      so_far : IsOpenBehind (g.R.WasmModuleResources.context l.body.context.now.resources.now) l.body.context.now.types (may_stand None) (state l.fn.v) (state l.v) l.code.left l.reader.left;
       few : length l.reader.left + l.counter ≤ length l.code.left;
     }

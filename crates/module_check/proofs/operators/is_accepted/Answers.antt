@@ -29,4 +29,4 @@ pub returns-clause-refused : goal.returns-clause-refused
 returns-clause-refused g c = λ refused.
     let md = g.R.WasmModuleResources.context c.args.resources.now in
     let same = same_at_once md (λ cx. operator cx c.args.op.now) (stacks_of c.args.v.now) (stacks_of c.passes_at_once.new.self) c.passes_at_once.result c.passes_at_once.ensures c.if-passes_at_once.false in
-    subst (λ (s : Stacked). IfSome c.is_accepted_by_check.new.refusal (IsRefusedFor (RowFails (step_body md (λ cx. operator cx c.args.op.now) s.body)))) same (c.is_accepted_by_check.ensures.refused refused)
+    subst (λ (s : Stacked). IfSome c.is_accepted_by_check.new.refusal (IsRefusedFor (RowFails (step_body md (λ cx. operator cx c.args.op.now) s.body)) c.args.offset)) same (c.is_accepted_by_check.ensures.refused refused)

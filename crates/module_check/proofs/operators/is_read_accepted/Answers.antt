@@ -13,26 +13,26 @@ use Rattle.module_check.proofs.operators.is_read_accepted.Goals as goal
 
 pub is_any_accepted-requires : goal.is_any_accepted-requires
 is_any_accepted-requires g c =
-    let md = g.R.WasmModuleResources.context c.args.context.now.resources.now in
+    let md = g.R.WasmModuleResources.context c.args.body.now.context.now.resources.now in
     let same = same_of md c.passes_told.result c.args.reader.now c.passes_told.new.reader (stacks_of c.args.v.now) (stacks_of c.passes_told.new.v) c.passes_told.ensures c.if-passes_told.false in
     subst (MayVisit md) (sym same.1) c.requires
 
 pub returns-then-passes_told-clause-turn : goal.returns-then-passes_told-clause-turn
 returns-then-passes_told-clause-turn g c = λ is.
-    turn_of (g.R.WasmModuleResources.context c.args.context.now.resources.now) c.passes_told.result c.args.reader.now c.passes_told.new.reader (stacks_of c.args.v.now) (stacks_of c.passes_told.new.v) c.passes_told.ensures c.if-passes_told.true c.args.context.now.types
+    turn_of (g.R.WasmModuleResources.context c.args.body.now.context.now.resources.now) c.passes_told.result c.args.reader.now c.passes_told.new.reader (stacks_of c.args.v.now) (stacks_of c.passes_told.new.v) c.passes_told.ensures c.if-passes_told.true c.args.body.now.context.now.types
 
 pub returns-else-passes_told-clause-turn : goal.returns-else-passes_told-clause-turn
 returns-else-passes_told-clause-turn g c = λ accepted.
-    let md = g.R.WasmModuleResources.context c.args.context.now.resources.now in
+    let md = g.R.WasmModuleResources.context c.args.body.now.context.now.resources.now in
     let next = c.is_any_accepted in
     let same = same_of md c.passes_told.result c.args.reader.now c.passes_told.new.reader (stacks_of c.args.v.now) (stacks_of c.passes_told.new.v) c.passes_told.ensures c.if-passes_told.false in
-    let turn = subst (λ (s : Stacked). IsTurn md c.args.context.now.types c.passes_told.new.reader.left next.new.reader.left s.body (state next.new.v)) same.1 (next.ensures.turn accepted) in
-    subst (λ (r : Unread). IsTurn md c.args.context.now.types r.left next.new.reader.left (state c.args.v.now) (state next.new.v)) same.0 turn
+    let turn = subst (λ (s : Stacked). IsTurn md c.args.body.now.context.now.types c.passes_told.new.reader.left next.new.reader.left s.body (state next.new.v)) same.1 (next.ensures.turn accepted) in
+    subst (λ (r : Unread). IsTurn md c.args.body.now.context.now.types r.left next.new.reader.left (state c.args.v.now) (state next.new.v)) same.0 turn
 
 pub returns-else-passes_told-clause-fault : goal.returns-else-passes_told-clause-fault
 returns-else-passes_told-clause-fault g c = λ is.
-    let md = g.R.WasmModuleResources.context c.args.context.now.resources.now in
+    let md = g.R.WasmModuleResources.context c.args.body.now.context.now.resources.now in
     let same = same_of md c.passes_told.result c.args.reader.now c.passes_told.new.reader (stacks_of c.args.v.now) (stacks_of c.passes_told.new.v) c.passes_told.ensures c.if-passes_told.false in
     let refusal = c.is_any_accepted.new.refusal in
-    let there = subst (λ (s : Stacked). IfSome refusal (IsFault (body_context md s.body) c.args.context.now.types (may_stand None) s.body.present c.passes_told.new.reader.left)) same.1 (c.is_any_accepted.ensures.fault is) in
-    subst (λ (r : Unread). IfSome refusal (IsFault (body_context md (state c.args.v.now)) c.args.context.now.types (may_stand None) (state c.args.v.now).present r.left)) same.0 there
+    let there = subst (λ (s : Stacked). IfSome refusal (IsFault (body_context md s.body) c.args.body.now.context.now.types (may_stand None) c.args.body.now.end s.body.present c.passes_told.new.reader.left)) same.1 (c.is_any_accepted.ensures.fault is) in
+    subst (λ (r : Unread). IfSome refusal (IsFault (body_context md (state c.args.v.now)) c.args.body.now.context.now.types (may_stand None) c.args.body.now.end (state c.args.v.now).present r.left)) same.0 there

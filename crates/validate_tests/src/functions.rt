@@ -140,18 +140,30 @@ pub enum Shown {
     End,
 }
 
+/// Shows this of a function of which nothing was asked yet.
+fn expect_shown<R: WasmModuleResources>(
+    rt: &(impl Abort + AllocGlobal + Print),
+    function: &mut FuncValidator<'static, '_, R>,
+    shown: Shown,
+)
+    requires first { function.old.accepted ≡ [] }
+    requires none_failed { function.old.failed ≡ false }
+{
+    match shown {
+        Shown::Attempt => expect_five_accepted(rt, function),
+        Shown::Failure => expect_refusals(rt, function),
+        Shown::Locals => expect_locals(rt, function),
+        Shown::End => expect_end(rt, function),
+    }
+}
+
 /// Shows this of a new function. One function owns it, for whatever is shown: what drops it is dear to prove.
 pub fn expect_function(rt: &(impl Abort + AllocGlobal + Print), shown: Shown) {
     let lists = lists_of(rt, "type func ->");
     let allocs = OperatorValidatorAllocations::new(rt.alloc());
     let v = function_of(rt, &lists, 0, allocs);
     let mut function = FuncValidator::new(rt.alloc(), v, &lists);
-    match shown {
-        Shown::Attempt => expect_five_accepted(rt, &mut function),
-        Shown::Failure => expect_refusals(rt, &mut function),
-        Shown::Locals => expect_locals(rt, &mut function),
-        Shown::End => expect_end(rt, &mut function),
-    }
+    expect_shown(rt, &mut function, shown);
 }
 
 #[test]

@@ -178,19 +178,29 @@ fn the_order_of_signatures(rt: HostRuntime) {
     expect(&rt, is_lower && !is_higher);
 }
 
+/// A refusal with a text that was made for it, which is told elsewhere and for a reason.
+fn expect_moved(rt: &(impl Abort + AllocGlobal)) {
+    let told = ample(rt, "told".to_string(rt.alloc()));
+    let refusal = Error::with_text(told, 5);
+    expect_same(rt, refusal.message(), "told");
+    expect(rt, refusal.offset() == 5 && !refusal.is_out_of_memory());
+    let moved = refusal.at(6).because(Refusal::UnknownLabel);
+    expect_same(rt, moved.offset(), 6);
+    expect(rt, matches!(moved.reason(), Some(Refusal::UnknownLabel)));
+}
+
+/// A refusal for whose text there was no memory.
+fn expect_unmade(rt: &impl Abort) {
+    let unmade = Error::from_text(Err(AllocError), 7);
+    expect(rt, unmade.is_out_of_memory());
+    expect(rt, Error::out_of_memory(7).is_out_of_memory());
+    expect_same(rt, unmade.message(), "out of memory");
+}
+
 #[test]
 fn refusals_with_their_texts(rt: HostRuntime) {
-    let told = ample(&rt, "told".to_string(rt.alloc()));
-    let refusal = Error::with_text(told, 5);
-    expect_same(&rt, refusal.message(), "told");
-    expect(&rt, refusal.offset() == 5 && !refusal.is_out_of_memory());
-    let moved = refusal.at(6).because(Refusal::UnknownLabel);
-    expect_same(&rt, moved.offset(), 6);
-    expect(&rt, matches!(moved.reason(), Some(Refusal::UnknownLabel)));
-    let unmade = Error::from_text(Err(AllocError), 7);
-    expect(&rt, unmade.is_out_of_memory());
-    expect(&rt, Error::out_of_memory(7).is_out_of_memory());
-    expect_same(&rt, unmade.message(), "out of memory");
+    expect_moved(&rt);
+    expect_unmade(&rt);
     let plain = Error::new("plain", 8);
     expect(&rt, plain.message() == "plain" && plain.reason().is_none());
     let arity = Refusal::SelectArity.wording();

@@ -239,11 +239,10 @@ no_frames [] h = refl
 no_frames (f ∷ fs) h = absurd (omega (arith, h))
 
 -- all rows hold and no frame is open: the list is type safe
-pub safe_list : (md : ModuleContext) (v w : BodyState) (ops : List (Op × ℕ)) (ty : BlockType) (i n : ℕ) → IsLawful md → i ≡ length ops → body_before md v ops i ≡ Some w.present → n ≡ frame_count w.present → n ≡ 0 → v.present ≡ start ty → IsSafeFrom md v ops ty
-safe_list md v w ops ty i n laws e r c z s =
+pub safe_list : (md : ModuleContext) (v w : BodyState) (ops : List (Op × ℕ)) (ty : BlockType) (i : ℕ) → IsLawful md → i ≡ length ops → body_before md v ops i ≡ Some w.present → w.present.frames ≡ [] → v.present ≡ start ty → IsSafeFrom md v ops ty
+safe_list md v w ops ty i laws e r none s =
     let cx = body_context md v in
     let code = body_operators md v ops in
-    let none : w.present.frames ≡ [] = no_frames w.present.frames (sym c ∙ z) in
     let accepted : state_before cx code (start ty) (length code) ≡ Some (record { frames = []; left = w.present.left }) =
     ap (λ k. state_before cx code (start ty) k) (length-body cx ops ∙ sym e) ∙ (ap (λ (q : State). state_before cx code q i) (sym s) ∙ (r ∙ ap (λ fs. Some (record { frames = fs; left = w.present.left })) none)) in
     record {

@@ -65,7 +65,15 @@ pub fn check_ops<R: WasmModuleResources>(
         let noted = (v.operand_stack_height(), v.control_stack_height());
         heights.push_reserved(noted);
     }
-    Ok(v.control_stack_height() == 0)
+    Ok(is_closed(v))
+}
+
+/// Whether the outermost frame is closed.
+#[inline(always)]
+fn is_closed(v: &OperatorValidator) -> bool
+    ensures { IsTrue result ↔ ((state v.now).present.frames ≡ []) }
+{
+    v.control_stack_height() == 0
 }
 
 /// Whether there is room for one more pair of heights, which it asks for where there is none.

@@ -1,5 +1,4 @@
-use Rattle.std.proofs.Common.{◌≡◌, ◌+◌, Ok, ◌++◌, ◌∷◌, [], ap, sym, ◌∙◌, subst, arith}
-use Rattle.std.proofs.lemmas.Bool.Decides.{nat_tests}
+use Rattle.std.proofs.Common.{◌+◌, Ok, ◌++◌, ◌∷◌, [], ap, sym, ◌∙◌, subst, arith}
 use Rattle.validate_stacks.specs.Visits.{MayVisit}
 use Rattle.validate_operators.specs.Validator.{state, stacks_of}
 use Rattle.validate_stacks.proofs.AtOnce.{done_at_once, same_at_once}
@@ -59,4 +58,4 @@ loop-index-preserved g c =
 pub returns-clause-safe : goal.returns-clause-safe
 returns-clause-safe g c =
     let md = g.R.WasmModuleResources.context c.args.resources.now in
-    λ z ty s. safe_list md (state c.args.v.now) (state c.loop-index.v) c.args.ops.now ty c.loop-index.index c.control_stack_height-2.result (g.met.R.WasmModuleResources.lawful c.args.resources.now) (omega arith) c.loop-index.invariant.run c.control_stack_height-2.ensures (let zero : c.control_stack_height-2.result ≡ 0 = grind (arith, nat_tests) in zero) s
+    λ z ty s. safe_list md (state c.args.v.now) (state c.loop-index.v) c.args.ops.now ty c.loop-index.index (g.met.R.WasmModuleResources.lawful c.args.resources.now) (omega arith) c.loop-index.invariant.run (c.is_closed.ensures.0 z) s

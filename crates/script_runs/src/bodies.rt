@@ -6,12 +6,13 @@ ghost use Rattle.validate_stacks.specs.State.{IsStarting, IsValidBody};
 ghost use Rattle.validate_stacks.specs.Visits.{MayVisit};
 
 use crate::left::{Left, check_list};
+use crate::paired::PairedLists;
 use crate::places::add_operands;
 use crate::printed::{add_printed, begun};
 use crate::snapshot::Snapshot;
 use crate::tally::Tally;
 use crate::undone::{compare_behind, run_lines};
-use odd_lookups::{Check, PairedLists, WantingLists};
+use crate::wanting::{Check, WantingLists};
 use opcheck_script::module_lists;
 use script_reader::{BodyLine, Operators, Script, read_script};
 use std::alloc::{AllocError, Global};

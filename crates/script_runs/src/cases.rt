@@ -26,7 +26,7 @@ use crate::left::run_left;
 use crate::tally::Tally;
 use crate::transcript::{run_bad_lines, run_each, run_transcript};
 use crate::undone::run_undone;
-use odd_lookups::Check;
+use crate::wanting::Check;
 use std::alloc::{AllocError, Global};
 
 /// Over which lookup the lines of a section are visited or undone, by its kind and the words behind it.

@@ -18,6 +18,7 @@ mod choice;
 mod flags;
 mod left;
 mod measure;
+mod paired;
 mod places;
 mod printed;
 mod runs;
@@ -27,6 +28,7 @@ mod timing;
 mod transcript;
 mod undone;
 mod unmeasured;
+mod wanting;
 
 use crate::cases::run_cases;
 use crate::choice::read_choice;

@@ -1,7 +1,7 @@
 //! A lookup in which two indices name each type.
 
 ghost use Rattle.std.specs.Prelude.{◌≡◌};
-ghost use Rattle.odd_lookups.specs.Paired.{halved_index, halved_heap, halved_ref, halved_type, lawful_paired, paired_context};
+ghost use Rattle.script_runs.specs.Paired.{halved_index, halved_heap, halved_ref, halved_type, lawful_paired, paired_context};
 
 use validate_resources::uses::laws;
 use validate_resources::{ModuleLists, WasmModuleResources};

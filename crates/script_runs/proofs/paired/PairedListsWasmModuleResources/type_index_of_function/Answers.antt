@@ -1,8 +1,8 @@
 use Rattle.std.proofs.Common.{arith, sym, ◌∙◌, ◌<◌}
 use Rattle.validate_types.specs.declared.heap.TheConstants.PackedIndex.{LIMIT}
 use Rattle.validate_resources.specs.Kept.{declared_lists}
-use Rattle.odd_lookups.proofs.Small.{small_index}
-use Rattle.odd_lookups.proofs.paired.PairedListsWasmModuleResources.type_index_of_function.Goals as goal
+use Rattle.script_runs.proofs.Small.{small_index}
+use Rattle.script_runs.proofs.paired.PairedListsWasmModuleResources.type_index_of_function.Goals as goal
 
 pub overflow_mul-result : goal.overflow_mul-result
 overflow_mul-result c =

@@ -72,10 +72,15 @@ fn visit_body<R: WasmModuleResources>(
     requires none_failed { function.old.failed ≡ false }
 {
     function.define_locals(0, 1, ValType::I64)?;
-    visit(function, 0, Op::Control(ControlOp::LocalGet(local)))?;
-    visit(function, 2, Op::Numeric(NumericOp::I32Const(1)))?;
-    visit(function, 4, Op::Numeric(ADD))?;
-    visit(function, 5, Op::Control(ControlOp::End))?;
+    let ops = [
+        (0, Op::Control(ControlOp::LocalGet(local))),
+        (2, Op::Numeric(NumericOp::I32Const(1))),
+        (4, Op::Numeric(ADD)),
+        (5, Op::Control(ControlOp::End)),
+    ];
+    for (offset, op) in &ops {
+        visit(function, *offset, *op)?;
+    }
     function.finish(5)
 }
 

@@ -3,12 +3,12 @@
 //! operands behind it, the lowest first.
 #![tactic(auto)]
 
-ghost use Rattle.std.specs.Prelude.{◌≡◌, None, IfOk};
+ghost use Rattle.std.specs.Prelude.{◌≡◌, None, IfSome};
 ghost use Rattle.wasmparser_validate.specs.Validator.{state};
 ghost use Rattle.wasmparser_validate.specs.State.{IsStarting, IsValidBody};
 
 use module_check::{
-    CheckError, CodeReader, LoadRefusal, LoadedModule, ModuleFeatures, OperatorLists, Verdict,
+    BodyBuffers, CodeReader, LoadRefusal, LoadedModule, ModuleFeatures, OperatorLists, Verdict,
     operator_name,
 };
 use std::alloc::Global;
@@ -16,7 +16,7 @@ use std::io::Read;
 use std::{env, io};
 use wasmparser_validate::operators::{OperatorValidator, OperatorValidatorAllocations};
 use wasmparser_validate::resources::WasmModuleResources;
-use wasmparser_validate::types::{Error, WasmFeatures};
+use wasmparser_validate::types::WasmFeatures;
 
 /// Prints where an operator of the module begins, and its name.
 fn print_name(rt: &HostRuntime, bytes: &[u8], offset: u64) -> io::Result<()> {
@@ -36,101 +36,85 @@ fn print_operands(rt: &HostRuntime, v: &OperatorValidator) -> io::Result<()> {
     println!(rt; "")
 }
 
-/// A validator of the body of a function of this type, with the locals that its code begins with.
+/// A validator of the body of a function of this type, with the locals that its code begins with, or None where they are
+/// refused.
 fn start<R: WasmModuleResources>(
     alloc: Global,
     resources: &R,
     features: &WasmFeatures,
     ty: u32,
     code: &mut CodeReader<'_>,
-) -> Result<OperatorValidator, CheckError>
-    ensures { IfOk result (λ v. IsStarting (R.context resources.now) (state v)) }
+) -> Option<OperatorValidator>
+    ensures { IfSome result (λ v. IsStarting (R.context resources.now) (state v)) }
 {
     let buffers = OperatorValidatorAllocations::new(alloc);
-    let mut v = OperatorValidator::new_func(ty, code.offset(), features, resources, buffers)?;
-    code.define_locals(&mut v, resources)?;
-    Ok(v)
+    let mut v = OperatorValidator::new_func(ty, code.offset(), features, resources, buffers).ok()?;
+    match code.define_locals(&mut v, resources) {
+        Ok(()) => Some(v),
+        Err(_) => None,
+    }
 }
 
-/// Reads an operator, and checks it.
+/// Reads an operator, and checks it: whether it is accepted.
 fn step<R: WasmModuleResources>(
     v: &mut OperatorValidator,
     resources: &R,
     code: &mut CodeReader<'_>,
     lists: &mut OperatorLists,
-) -> Result<(), CheckError>
+) -> bool
     requires valid { IsValidBody (R.context resources.now) (state v.old) }
     requires idle { (state v.old).undone ≡ None }
     ensures valid { IsValidBody (R.context resources.now) (state v.new) }
     ensures idle { (state v.new).undone ≡ None }
 {
-    let offset = code.offset();
     if v.control_stack_height() == 0 {
-        let refusal = Error::new("operators remaining after end of function", offset);
-        return Err(CheckError::Refused(refusal));
+        return false;
     }
-    let op = code.read_operator(lists)?;
-    v.check(resources, offset, op)?;
-    Ok(())
+    let offset = code.offset();
+    match code.read_operator(lists) {
+        Ok(op) => v.check(resources, offset, op).is_ok(),
+        Err(_) => false,
+    }
 }
 
-/// Prints each operator up to the end of the code, or to one that isn't accepted, and answers what they come to.
+/// Prints each operator up to the end of the code, or to one that isn't accepted.
 fn print_operators<R: WasmModuleResources>(
     rt: &HostRuntime,
     v: &mut OperatorValidator,
     resources: &R,
     bytes: &[u8],
     code: &mut CodeReader<'_>,
-) -> io::Result<Verdict>
+) -> io::Result<()>
     requires { IsStarting (R.context resources.now) (state v.old) }
 {
     let mut lists = OperatorLists::new(rt.alloc());
     for _ in 0..code.bytes_left() {
-        if code.is_at_end() {
-            break;
-        }
         let offset = code.offset();
-        if let Err(error) = step(v, resources, code, &mut lists) {
-            return Ok(Verdict::of_check(Err(error)));
+        if code.is_at_end() || !step(v, resources, code, &mut lists) {
+            break;
         }
         print_name(rt, bytes, offset)?;
         print_operands(rt, v)?;
     }
-    Ok(verdict_at_end(v, code.offset()))
+    Ok(())
 }
 
-/// What a body whose operators are all accepted comes to: no frame may be open.
-fn verdict_at_end(v: &OperatorValidator, offset: u64) -> Verdict {
-    if v.control_stack_height() == 0 {
-        Verdict::Accepted
-    } else {
-        Verdict::Refused(Error::new("control frames remain at end of function", offset))
-    }
-}
-
-/// Prints the body of a function, and answers what it comes to.
-fn print_body(rt: &HostRuntime, module: &LoadedModule<'_>, function: u32) -> io::Result<Verdict> {
+/// Prints the operators of the body of a function, as far as they are accepted.
+fn print_body(rt: &HostRuntime, module: &LoadedModule<'_>, function: u32) -> io::Result<()> {
     let (Some(mut code), Some(ty)) = (module.code_of(function), module.type_of(function)) else {
-        return Ok(Verdict::Refused(Error::new("the module has no such body", 0)));
+        return Ok(());
     };
     let features = module.features().operator_features();
-    let verdict = print_code(rt, module, &features, ty, &mut code)?;
-    Ok(verdict.under(&features))
+    let resources = module.resources();
+    match start(rt.alloc(), resources, &features, ty, &mut code) {
+        Some(mut v) => print_operators(rt, &mut v, resources, module.bytes(), &mut code),
+        None => Ok(()),
+    }
 }
 
-/// Prints the body of a function of this type, whose code this is, and answers what it comes to.
-fn print_code(
-    rt: &HostRuntime,
-    module: &LoadedModule<'_>,
-    features: &WasmFeatures,
-    ty: u32,
-    code: &mut CodeReader<'_>,
-) -> io::Result<Verdict> {
-    let resources = module.resources();
-    match start(rt.alloc(), resources, features, ty, code) {
-        Ok(mut v) => print_operators(rt, &mut v, resources, module.bytes(), code),
-        Err(error) => Ok(Verdict::of_check(Err(error))),
-    }
+/// What the body of a function comes to.
+fn verdict_of(alloc: Global, module: &LoadedModule<'_>, function: u32) -> Verdict {
+    module.check_function(function, &mut BodyBuffers::new(alloc))
 }
 
 /// Whether a word is the index or the name of a function.
@@ -163,12 +147,12 @@ fn wanted_function(rt: &HostRuntime, module: &LoadedModule<'_>) -> io::Result<Op
     })
 }
 
-/// Prints the body of the function that is wanted.
+/// Prints the body of the function that is wanted, and what it comes to.
 fn print_wanted(rt: &HostRuntime, module: &LoadedModule<'_>) -> io::Result<()> {
     match wanted_function(rt, module)? {
         Some(function) => {
-            let verdict = print_body(rt, module, function)?;
-            print_verdict(rt, &verdict)
+            print_body(rt, module, function)?;
+            print_verdict(rt, &verdict_of(rt.alloc(), module, function))
         }
         None => println!(rt; "the module has no such body"),
     }

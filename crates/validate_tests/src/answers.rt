@@ -288,7 +288,7 @@ pub fn add_list<R: WasmModuleResources>(
     }
 }
 
-/// Checks an operator of a function in which a frame is open. It is accepted, and then one more is.
+/// Checks an operator of a function in which a frame is open.
 pub fn check_in<'a, R: WasmModuleResources>(
     rt: &impl Abort,
     function: &mut FuncValidator<'a, '_, R>,
@@ -296,14 +296,11 @@ pub fn check_in<'a, R: WasmModuleResources>(
     is_attempted: bool,
 ) -> Result<(), Error> {
     expect(rt, function.control_stack_height() > 0);
-    let count = function.accepted().len();
-    let answer = if is_attempted {
+    if is_attempted {
         function.try_op(offset, *op)
     } else {
         function.op(offset, *op)
-    };
-    expect(rt, (function.accepted().len() == count) == answer.is_err());
-    answer
+    }
 }
 
 /// Adds what an operator of a function answers. One that is refused makes the function fail, unless it is attempted: then

@@ -6,9 +6,11 @@ ghost use Rattle.wasmparser_validate.specs.Validator.{state};
 
 use crate::counted::{Run, expect_both};
 use crate::functions::expect_before;
-use crate::modules::{constant, expression, function_of, lists_of};
+use crate::modules::{begun_anew, constant, expression, function_of, lists_of};
 use crate::reasons::{Row, expect_row};
-use crate::starts::{declare_to_the_limit, expect_seven, expect_start, expect_the_same_call};
+use crate::starts::{
+    declare_to_the_limit, expect_begun_anew, expect_seven, expect_start, expect_the_same_call,
+};
 use crate::{module_arity, without_memory};
 use std::mem;
 use std::process::Abort;
@@ -25,6 +27,8 @@ pub enum Example {
     Limit,
     /// Locals that found no memory are declared by the same call.
     SameCall,
+    /// Calls that begin another body.
+    Anew,
     /// A constant expression, checked as a list.
     Constant,
     /// What a new body answers.
@@ -47,6 +51,7 @@ impl Example {
             Example::Limit | Example::SameCall | Example::Constant => "type func ->",
             Example::Names => module_arity::MODULE,
             Example::Before(..) => "type func i32 -> i32",
+            Example::Anew => "type func i32 ->",
             Example::Run(_) | Example::Refused(_) => "memory",
             Example::WithoutMemory(_) => "type func ->\ntype func i32 ->\ntag 1",
         }
@@ -65,6 +70,7 @@ fn begun(
     match example {
         Example::Start => function_of(rt, lists, 3, allocs),
         Example::Constant => constant(rt, lists, allocs),
+        Example::Anew => begun_anew(rt, lists, allocs),
         Example::Run(_) | Example::Refused(_) => expression(rt, lists, allocs),
         _ => function_of(rt, lists, 0, allocs),
     }
@@ -84,6 +90,7 @@ fn show(
         Example::Limit => declare_to_the_limit(rt, v, lists),
         Example::SameCall => expect_the_same_call(rt, v, lists),
         Example::Constant => expect_seven(rt, v, lists),
+        Example::Anew => expect_begun_anew(rt, v, lists),
         Example::Names => module_arity::expect_answers(rt, v, lists),
         Example::Before(place, types) => expect_before(rt, v, lists, place, types),
         Example::Run(run) => expect_both(rt, v, lists, run),
@@ -99,7 +106,8 @@ pub fn expect_example_in(
     example: Example,
 ) {
     let lists = lists_of(rt, example.module());
-    let allocs = mem::replace(used, OperatorValidatorAllocations::new(rt.alloc()));
+    let others = OperatorValidatorAllocations::new(used.allocator());
+    let allocs = mem::replace(used, others);
     let mut v = begun(rt, &lists, example, allocs);
     show(rt, &mut v, &lists, example);
     *used = v.into_allocations();

@@ -28,6 +28,14 @@ fn expect_names<M: ModuleArity>(rt: &impl Abort, body: &M) {
     expect_same(rt, body.label_block(1), None);
 }
 
+/// A reference by its module's index has no id, and so names no type.
+fn expect_no_types<M: ModuleArity>(rt: &impl Abort, body: &M) {
+    expect(rt, body.sub_type_of_ref_type(&RefType::FUNCREF).is_none());
+    if let Some(index) = UnpackedIndex::Module(0).pack() {
+        expect(rt, body.func_type_of_cont_type(&ContType(index)).is_none());
+    }
+}
+
 /// One frame is open, a block.
 fn expect_one_frame<M: ModuleArity + FrameStack>(rt: &impl Abort, body: &M)
     requires { M.open_frames body.now < 2 ^ 32 }
@@ -36,16 +44,13 @@ fn expect_one_frame<M: ModuleArity + FrameStack>(rt: &impl Abort, body: &M)
     expect_same(rt, body.current_frame(), Some(FrameKind::Block));
 }
 
-/// What a new body answers. A reference by its module's index has no id, and so names no type.
+/// What a new body answers.
 pub fn expect_answers(rt: &impl Abort, v: &mut OperatorValidator, lists: &ModuleLists)
     requires { IsStarting (⟦<ModuleLists as WasmModuleResources>⟧.context lists.now) (state v.old) }
 {
     let body = v.with_resources(lists, 7);
     expect_names(rt, &body);
-    expect(rt, body.sub_type_of_ref_type(&RefType::FUNCREF).is_none());
-    if let Some(index) = UnpackedIndex::Module(0).pack() {
-        expect(rt, body.func_type_of_cont_type(&ContType(index)).is_none());
-    }
+    expect_no_types(rt, &body);
     expect_one_frame(rt, &body);
 }
 

@@ -41,6 +41,19 @@ pub fn function_of<R: WasmModuleResources>(
     )
 }
 
+/// A validator that was made without a body, in these buffers, and begins one of a function of type 0.
+pub fn begun_anew<R: WasmModuleResources>(
+    rt: &impl Abort,
+    lists: &R,
+    allocs: OperatorValidatorAllocations,
+) -> OperatorValidator
+    ensures { IsStarting (R.context lists.now) (state result) }
+{
+    let mut v = OperatorValidator::new(&WasmFeatures::all(), allocs);
+    ample(rt, v.start_func(0, 1, &WasmFeatures::all(), lists));
+    v
+}
+
 /// A validator of a constant expression of type i32, in these buffers.
 pub fn constant<R: WasmModuleResources>(
     rt: &impl Abort,

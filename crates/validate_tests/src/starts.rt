@@ -10,7 +10,6 @@ use crate::bodies::{Way, expect_bodies};
 use crate::counted::expect_runs;
 use crate::examples::{Example, expect_example, expect_example_in};
 use crate::expectations::{ample, expect, expect_error, expect_same};
-use crate::modules::lists_of;
 use crate::visits::Call;
 use std::process::Abort;
 use wasmparser_validate::operators::{
@@ -144,7 +143,7 @@ fn locals_that_found_no_memory_are_declared_by_the_same_call(rt: HostRuntime) {
 }
 
 /// The calls that begin a body in the buffers of the one before, which leaves nothing.
-fn expect_begun_anew<R: WasmModuleResources>(
+pub fn expect_begun_anew<R: WasmModuleResources>(
     rt: &impl Abort,
     v: &mut OperatorValidator,
     lists: &R,
@@ -164,11 +163,7 @@ fn expect_begun_anew<R: WasmModuleResources>(
 
 #[test]
 fn bodies_that_begin_anew(rt: HostRuntime) {
-    let lists = lists_of(&rt, "type func i32 ->");
-    let other = OperatorValidatorAllocations::new(rt.alloc());
-    let allocs = OperatorValidatorAllocations::new(other.allocator());
-    let mut v = OperatorValidator::new(&WasmFeatures::all(), allocs);
-    expect_begun_anew(&rt, &mut v, &lists);
+    expect_example(&rt, Example::Anew);
 }
 
 /// An index of a type is one of a module, and an id isn't.

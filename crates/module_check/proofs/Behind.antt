@@ -1,5 +1,5 @@
 -- One more operator of the bytes of a body: before it they are accepted exactly if those behind it are.
-use Rattle.std.proofs.Common.{◌≡◌, ◌≢◌, ◌⊎◌, inl, inr, ℕ, ◌-◌, Bool, true, false, List, [], ◌∷◌, length, Option, Some, None, IfSome, IsSome, get_or, Result, Ok, Err, IfErr, is_none, ◌||◌, refl, sym, ap, ◌∙◌, subst}
+use Rattle.std.proofs.Common.{◌≡◌, ◌≢◌, ◌⊎◌, inl, inr, ℕ, ◌-◌, Bool, true, false, List, [], ◌∷◌, length, Option, Some, None, IfSome, IsSome, get_or, Result, Ok, Err, IfErr, is_none, ◌||◌, refl, sym, ap, ◌∙◌, subst, arith}
 use Rattle.std.specs.Prelude.{OnErr}
 use Rattle.std.proofs.lemmas.Bool.{and_from, and_parts}
 use Rattle.std.specs.Option.{option_and_then, option_map}
@@ -199,7 +199,7 @@ not_read types VectorOperator bytes refusal none = none.0
 not_read types OutOfMemory bytes refusal none = absurd (refusal refl)
 
 not_at_fault : (md : ModuleContext) (types : CanonicalTypes) (may : Op → Bool) (end : ℕ) (v : BodyState) (bytes : List ℕ) (e : CheckError) → IsFault (body_context md v) types may end v.present bytes e → IsRefusal e → ¬ AreAcceptedOperators md types may v bytes
-not_at_fault md types may end v bytes (Unread e) f refusal = unread md types may v bytes f.0 (not_read types e.cause bytes refusal f.1)
+not_at_fault md types may end v bytes (Unread e) f refusal = unread md types may v bytes f.0 (not_read types e.cause bytes refusal f.2)
 not_at_fault md types may end v bytes (Refused e) f refusal = not_there md types may v bytes (f refusal).0
 
 not_behind : (md : ModuleContext) (types : CanonicalTypes) (may : Op → Bool) (end : ℕ) (e : CheckError) (behind : List ℕ) (s : State) (ops : List (Op × ℕ)) (v : BodyState) (bytes : List ℕ) → AreOperators types bytes (without_offsets ops) behind → body_before md v ops (length ops) ≡ Some s → IsFault (body_context md v) types may end s behind e → IsRefusal e → ¬ AreAcceptedOperators md types may v bytes
@@ -218,6 +218,44 @@ not_behind md types may end e behind s (p ∷ ops) v bytes read rows f refusal =
 pub not_reached : (md : ModuleContext) (types : CanonicalTypes) (may : Op → Bool) (end : ℕ) (v : BodyState) (bytes : List ℕ) (e : CheckError) → ReachFault md types may end v bytes e → IsRefusal e → ¬ AreAcceptedOperators md types may v bytes
 not_reached md types may end v bytes e r refusal = not_behind md types may end e r.behind r.state r.ops v bytes r.are_read r.rows_hold r.is_fault refusal
 
+-- no fault stands where an operator is accepted
+no_fault_before : (md : ModuleContext) (types : CanonicalTypes) (may : Op → Bool) (end : ℕ) (v : BodyState) (bytes left : List ℕ) (op : Op) (next : State) (e : CheckError) → IsFault (body_context md v) types may end v.present bytes e → IsRefusal e → read_as types bytes ≡ Some (op, left) → may op ≡ true → step_over md op v ≡ Some next → ⊥
+no_fault_before md types may end v bytes left op next (Unread e) f refusal read stands row = none_or_some (op, left) (sym (not_read types e.cause bytes refusal f.2) ∙ read)
+no_fault_before md types may end v bytes left op next (Refused e) f refusal read stands row = by (f refusal).0
+  where
+    by : IsInvalidThere (body_context md v) types may v.present bytes → ⊥
+    by (inl (opened, ended)) = none_or_some (op, left) (sym (ap (read_as types) ended ∙ reads_none types) ∙ read)
+    by (inr (inl (opened, r))) =
+        let same = both_same (read_as types bytes) r.op op r.left left r.is_read read in
+        elim r.fails [
+          | inl unfit_there ↦ not_both (may op) stands (ap may (sym same.0) ∙ unfit_there)
+          | inr fails ↦ none_or_some next (sym fails ∙ (ap (λ o. step_over md o v) same.0 ∙ row))
+        ]
+    by (inr (inr (closed, more))) = none_or_some next (sym (no_step md op v closed) ∙ row)
+
+-- where all bytes are operators that are accepted, a refusal is told at their end: so that of a body that is left open is
+pub told_at_end : (md : ModuleContext) (types : CanonicalTypes) (may : Op → Bool) (end : ℕ) (e : CheckError) (behind : List ℕ) (s t : State) (ops all : List (Op × ℕ)) (v : BodyState) (bytes : List ℕ) → AreOperators types bytes (without_offsets ops) behind → body_before md v ops (length ops) ≡ Some s → IsFault (body_context md v) types may end s behind e → IsRefusal e → AreOperators types bytes (without_offsets all) [] → each_may_stand may all ≡ true → body_before md v all (length all) ≡ Some t → error_offset e ≡ end
+told_at_end md types may end (Unread e) behind s t [] [] v bytes read rows f refusal whole stand accepted = absurd (f.1 (sym read ∙ whole))
+told_at_end md types may end (Refused e) behind s t [] [] v bytes read rows f refusal whole stand accepted =
+    let none : length behind ≡ 0 = ap (λ bs. length bs) (sym read ∙ whole) in
+    omega (arith, none, (f refusal).1)
+told_at_end md types may end e behind s t [] (p ∷ all) v bytes read rows f refusal whole stand accepted =
+    let cx = body_context md v in
+    let here = subst (λ (x : State). IsFault cx types may end x behind e) (sym (some_same v.present s rows)) f in
+    let m = and_then_given (step_over md p.0 v) (λ (x : State). state_before cx (operators cx (without_offsets all)) x (length all)) t accepted in
+    absurd (no_fault_before md types may end v bytes whole.0 p.0 m.0 e (subst (λ b. IsFault cx types may end v.present b e) (sym read) here) refusal whole.1 (and_parts (may p.0) (each_may_stand may all) stand).0 m.1)
+told_at_end md types may end e behind s t (q ∷ ops) [] v bytes read rows f refusal whole stand accepted =
+    absurd (none_or_some (q.0, read.0) (sym (ap (read_as types) whole ∙ reads_none types) ∙ read.1))
+told_at_end md types may end e behind s t (q ∷ ops) (p ∷ all) v bytes read rows f refusal whole stand accepted =
+    let cx = body_context md v in
+    let m = and_then_given (step_over md q.0 v) (λ (x : State). state_before cx (operators cx (without_offsets ops)) x (length ops)) s rows in
+    let n = and_then_given (step_over md p.0 v) (λ (x : State). state_before cx (operators cx (without_offsets all)) x (length all)) t accepted in
+    let same = both_same (read_as types bytes) q.0 p.0 read.0 whole.0 read.1 whole.1 in
+    let same_next = some_same n.0 m.0 (sym n.1 ∙ (ap (λ o. step_over md o v) (sym same.0) ∙ m.1)) in
+    let next : BodyState = record v { present = m.0 } in
+    told_at_end md types may end e behind s t ops all next read.0 read.2 m.2 f refusal (subst (λ l. AreOperators types l (without_offsets all) []) (sym same.1) whole.2)
+    (and_parts (may p.0) (each_may_stand may all) stand).1 (subst (λ (x : State). state_before cx (operators cx (without_offsets all)) x (length all) ≡ Some t) same_next n.2)
+
 -- a vector operator that is told stands there
 pub vector_reached : (md : ModuleContext) (types : CanonicalTypes) (may : Op → Bool) (end : ℕ) (v : BodyState) (bytes : List ℕ) (e : CheckError) → ReachFault md types may end v bytes e → IsVector e → ReachVector md types may v bytes
 vector_reached md types may end v bytes (Unread e) r vector = record {
@@ -228,7 +266,7 @@ vector_reached md types may end v bytes (Unread e) r vector = record {
   state = r.state;
   rows_hold = r.rows_hold;
   is_open = r.is_fault.0;
-  begins = (subst (λ cause. IsUnreadable types cause r.behind) vector r.is_fault.1).1;
+  begins = (subst (λ cause. IsUnreadable types cause r.behind) vector r.is_fault.2).1;
 }
 vector_reached md types may end v bytes (Refused e) r vector = absurd vector
 
@@ -237,6 +275,10 @@ vector_unread : (types : CanonicalTypes) (bytes : List ℕ) → BeginVector byte
 unfolding read_as forms
 vector_unread types [] begins = absurd cc
 vector_unread types (code ∷ bytes) begins = subst (λ (c : ℕ). read_as types (c ∷ bytes) ≡ None) (ap (λ l. get_or l 0 0) (sym begins)) refl
+
+begins_some : (bytes : List ℕ) → BeginVector bytes → bytes ≢ []
+begins_some [] begins is = absurd cc
+begins_some (code ∷ bytes) begins is = absurd cc
 
 abbrev pub unread_vector : CheckError
 unread_vector = Unread (record { cause = VectorOperator; offset = 0 })
@@ -249,7 +291,7 @@ vector_fault md types may end v bytes r = record {
   each_stands = r.each_stands;
   state = r.state;
   rows_hold = r.rows_hold;
-  is_fault = (r.is_open, (vector_unread types r.behind r.begins, r.begins));
+  is_fault = (r.is_open, begins_some r.behind r.begins, (vector_unread types r.behind r.begins, r.begins));
 }
 
 -- what follows of each error follows of the one that there is

@@ -1,8 +1,8 @@
 -- What is told by the first byte is what the bytes are.
-use Rattle.std.proofs.Common.{◌≡◌, ℕ, ◌+◌, List, [], ◌∷◌, Bool, true, false, Option, Some, None, suc, zero, ◌&&◌, refl, sym, ap, subst, ◌∙◌, get_or, arith, nat_eq, nat_lt, ◌<◌, ◌≤◌, ◌-◌, ◌^◌, drop, if◌then◌else◌, ℤ, pos, ◌-ℤ◌, ◌⊎◌, inl, inr, option_map}
+use Rattle.std.proofs.Common.{◌≡◌, ℕ, ◌+◌, List, [], ◌∷◌, Bool, true, false, Option, Some, None, suc, zero, ◌&&◌, ◌||◌, refl, length, sym, ap, subst, ◌∙◌, get_or, arith, nat_eq, nat_lt, ◌<◌, ◌≤◌, ◌-◌, ◌^◌, drop, if◌then◌else◌, ℤ, pos, ◌-ℤ◌, ◌⊎◌, inl, inr, option_map}
 use borrow.Author.Tests.{clash}
 use Rattle.std.proofs.lemmas.Bool.{and_parts, eqb-true, ltb-true, lt-ltb, le-ltb, cases_lt}
-use Rattle.binary_operators.specs.Codes.{at, plain_ops, index_ops, block_ops, access_ops}
+use Rattle.binary_operators.specs.Codes.{at, natural, plain_ops, index_ops, block_ops, access_ops}
 use Rattle.binary_operators.specs.Immediates.{block_type, memarg, in_memory, in_indexed_memory}
 use Rattle.binary_operators.specs.Integers.{unsigned, signed, biased, last_biased, with_low, with_rest, without_bias}
 use Rattle.binary_operators.specs.Unplaced.{unplaced}
@@ -15,7 +15,12 @@ use Rattle.binary_operators.specs.declared.forms.Form.{Form}
 use Rattle.binary_operators.specs.declared.forms.Form.TheVariants.{Numeric as OfNumeric, Access as OfAccess}
 use Rattle.binary_operators.specs.declared.types.CanonicalTypes.{CanonicalTypes}
 use Rattle.validate_visit.specs.declared.memory.MemArg.{MemArg}
-use Rattle.validate_visit.specs.declared.memory.MemArgTarget.TheVariants.{Memory}
+use Rattle.validate_visit.specs.declared.numbers.NumberType.{NumberType}
+use Rattle.validate_visit.specs.declared.numbers.NumberType.TheVariants.{I32, I64, F32, F64}
+use Rattle.validate_visit.specs.declared.numbers.PackedInteger.TheVariants.{I32Bits8, I32Bits16, I64Bits8, I64Bits16, I64Bits32}
+use Rattle.validate_visit.specs.declared.numbers.Sign.TheVariants.{Signed, Unsigned}
+use Rattle.validate_visit.specs.declared.op.MemoryOp.{MemoryOp}
+use Rattle.validate_visit.specs.declared.op.MemoryOp.TheVariants.{Load, LoadPacked, Store, StorePacked}
 use Rattle.validate_visit.specs.declared.numbers.IntegerType.TheVariants.{I32 as W32, I64 as W64}
 use Rattle.validate_visit.specs.declared.numeric.IntegerBinaryOp.TheVariants.{Add}
 use Rattle.validate_visit.specs.declared.numeric.IntegerComparisonOp.TheVariants.{Eq}
@@ -24,11 +29,13 @@ use Rattle.validate_visit.specs.declared.op.ControlOp.TheVariants.{Nop as NopOp,
 use Rattle.validate_visit.specs.declared.op.NumericOp.{NumericOp}
 use Rattle.validate_visit.specs.declared.op.NumericOp.TheVariants.{I32Const, Eqz, IntegerBinary, IntegerComparison}
 use Rattle.validate_visit.specs.declared.op.Op.{Op}
-use Rattle.validate_visit.specs.declared.op.Op.TheVariants.{Numeric, Control}
+use Rattle.validate_visit.specs.declared.op.Op.TheVariants.{Numeric, Control, Memory}
 use Rattle.validate_visit.specs.declared.frame.BlockType.TheVariants.{Empty}
-use Rattle.module_check.specs.FirstBytes.{kinds, BeginLike}
+use Rattle.validation_rules.specs.Context.{Context}
+use Rattle.validation_rules.specs.Operators.{operator as row_of}
+use Rattle.module_check.specs.FirstBytes.{kinds, near, BeginAs, BeginLike, BeginAccess, IsNear}
 use Rattle.module_check.specs.declared.common.Common.{Common}
-use Rattle.module_check.specs.declared.common.Common.TheVariants.{Rare, Nop, Block, Loop, If, End, Br, BrIf, Return, Call, Drop, Select, LocalGet, LocalSet, LocalTee, GlobalGet, GlobalSet, Constant32, Test32, Compare32, Compare64, Binary32, Binary64, Access}
+use Rattle.module_check.specs.declared.common.Common.TheVariants.{Rare, Nop, Block, Loop, If, End, Br, BrIf, Return, Call, Drop, Select, LocalGet, LocalSet, LocalTee, GlobalGet, GlobalSet, Constant32, Test32, Compare32, Compare64, Binary32, Binary64, Load32, Load64, LoadF32, LoadF64, Store32, Store64, StoreF32, StoreF64}
 
 -- whether a byte of this form, with this operator on numbers, is of the kind
 abbrev pub is_test32 : Option Form → Option NumericOp → Bool
@@ -51,9 +58,22 @@ abbrev pub is_binary64 : Option Form → Option NumericOp → Bool
 is_binary64 (Some OfNumeric) (Some (IntegerBinary W64 _)) = true
 is_binary64 _ _ = false
 
-abbrev pub is_access : Option Form → Bool
-is_access (Some OfAccess) = true
-is_access _ = false
+-- the codes of loads and stores of each type, with their natural alignments
+abbrev load32_codes : List (ℕ × ℕ)
+load32_codes = (0x28, 2) ∷ (0x2c, 0) ∷ (0x2d, 0) ∷ (0x2e, 1) ∷ (0x2f, 1) ∷ []
+
+abbrev load64_codes : List (ℕ × ℕ)
+load64_codes = (0x29, 3) ∷ (0x30, 0) ∷ (0x31, 0) ∷ (0x32, 1) ∷ (0x33, 1) ∷ (0x34, 2) ∷ (0x35, 2) ∷ []
+
+abbrev store32_codes : List (ℕ × ℕ)
+store32_codes = (0x36, 2) ∷ (0x3a, 0) ∷ (0x3b, 1) ∷ []
+
+abbrev store64_codes : List (ℕ × ℕ)
+store64_codes = (0x37, 3) ∷ (0x3c, 0) ∷ (0x3d, 1) ∷ (0x3e, 2) ∷ []
+
+abbrev pub is_among : ℕ → ℕ → List (ℕ × ℕ) → Bool
+is_among code natural [] = false
+is_among code natural (c ∷ cs) = (nat_eq code c.0 && nat_eq natural c.1) || is_among code natural cs
 
 -- whether an operator of this kind begins with this byte
 unfoldable pub is_common : ℕ → Common → Bool
@@ -63,7 +83,14 @@ is_common code Compare32 = is_compare32 (from 0 forms code) (from 0x45 numeric_o
 is_common code Compare64 = is_compare64 (from 0 forms code) (from 0x45 numeric_ops code)
 is_common code Binary32 = is_binary32 (from 0 forms code) (from 0x45 numeric_ops code)
 is_common code Binary64 = is_binary64 (from 0 forms code) (from 0x45 numeric_ops code)
-is_common code Access = is_access (from 0 forms code)
+is_common code (Load32 n) = is_among code n load32_codes
+is_common code (Load64 n) = is_among code n load64_codes
+is_common code (LoadF32 n) = is_among code n ((0x2a, 2) ∷ [])
+is_common code (LoadF64 n) = is_among code n ((0x2b, 3) ∷ [])
+is_common code (Store32 n) = is_among code n store32_codes
+is_common code (Store64 n) = is_among code n store64_codes
+is_common code (StoreF32 n) = is_among code n ((0x38, 2) ∷ [])
+is_common code (StoreF64 n) = is_among code n ((0x39, 3) ∷ [])
 is_common code Nop = nat_eq code 0x01
 is_common code Block = nat_eq code 0x02
 is_common code Loop = nat_eq code 0x03
@@ -180,11 +207,7 @@ small_signed i bs l =
           ∙ ap (λ v. without_bias 32 (with_rest bs v)) last.1,
     )
 
--- a place in the first memory, whose alignment and offset are a byte each
-abbrev pub near : ℕ → ℕ → MemArg
-near align offset = record { align = align; max_align = 0; offset = offset; target = Memory 0 }
-
-near_read : (align offset : ℕ) (bs : List ℕ) → align < 64 → offset < 128 → memarg (align ∷ offset ∷ bs) ≡ Some (near align offset, bs)
+near_read : (align offset : ℕ) (bs : List ℕ) → align < 64 → offset < 128 → memarg (align ∷ offset ∷ bs) ≡ Some (near 0 align offset, bs)
 unfolding memarg
 near_read align offset bs a o =
     let below : align < 128 = omega (arith, a) in
@@ -192,7 +215,7 @@ near_read align offset bs a o =
     let fits_too : offset < 2 ^ 64 = omega (arith, o) in
     ap (λ (r : Option (ℕ × List ℕ)). r >>= (λ (flags : ℕ × List ℕ). if nat_lt flags.0 0x40 then in_memory flags.0 0 flags.1 else (if nat_lt flags.0 0x80 then in_indexed_memory (flags.0 - 0x40) flags.1 else None))) (small_unsigned 32 align (offset ∷ bs) below fits)
     ∙ ap (λ t. if t then in_memory align 0 (offset ∷ bs) else (if nat_lt align 0x80 then in_indexed_memory (align - 0x40) (offset ∷ bs) else None)) (lt-ltb align 64 a)
-    ∙ ap (λ (r : Option (ℕ × List ℕ)). r >>= (λ (n : ℕ × List ℕ). Some (near align n.0, n.1))) (small_unsigned 64 offset bs o fits_too)
+    ∙ ap (λ (r : Option (ℕ × List ℕ)). r >>= (λ (n : ℕ × List ℕ). Some (near 0 align n.0, n.1))) (small_unsigned 64 offset bs o fits_too)
 
 abbrev before : List ℕ → Op → Option (Op × List ℕ)
 before bs op = Some (op, bs)
@@ -201,28 +224,176 @@ made : (make : Option (MemArg → Op)) (m : MemArg) (op : Op) (bs : List ℕ) �
 made None m op bs h = cc
 made (Some f) m op bs h = ap (λ (o : Option Op). o >>= before bs) h
 
-of_access : (form : Option Form) → is_access form ≡ true → form ≡ Some OfAccess
-of_access (Some OfAccess) h = refl
-of_access form h = absurd (clash h)
-
-pub access_read : (code align offset : ℕ) (op : Op) → Access ≡ get_or kinds code Rare → align < 64 → offset < 128 → option_map (λ (f : MemArg → Op). f (near align offset)) (at code access_ops) ≡ Some (unplaced op) → (types : CanonicalTypes) (bs : List ℕ) → operator types (code ∷ align ∷ offset ∷ bs) ≡ Some (unplaced op, bs)
-unfolding is_common operator access_op
+access_read : (code align offset : ℕ) (op : Op) → from 0 forms code ≡ Some OfAccess → align < 64 → offset < 128 → option_map (λ (f : MemArg → Op). f (near 0 align offset)) (at code access_ops) ≡ Some op → (types : CanonicalTypes) (bs : List ℕ) → operator types (code ∷ align ∷ offset ∷ bs) ≡ Some (op, bs)
+unfolding operator access_op
 access_read code align offset op e a o h types bs =
-    ap (λ form. operator_of form code types (align ∷ offset ∷ bs)) (of_access (from 0 forms code) (common_there code Access e))
+    ap (λ form. operator_of form code types (align ∷ offset ∷ bs)) e
     ∙ ap (λ (r : Option (MemArg × List ℕ)). r >>= (λ (m : MemArg × List ℕ). at code access_ops >>= (λ (f : MemArg → Op). before m.1 (f m.0)))) (near_read align offset bs a o)
-    ∙ made (at code access_ops) (near align offset) (unplaced op) bs h
+    ∙ made (at code access_ops) (near 0 align offset) op bs h
 
--- the bytes are these two and others, and readers stand behind the first and behind both
+-- with a near place behind this code, it is an operator whose row is that of this one
+abbrev IsLike : (MemArg → MemoryOp) → ℕ × ℕ → Type 0
+IsLike op c = (align offset : ℕ) (behind : List ℕ) → align < 64 → offset < 128 → BeginLike (c.0 ∷ align ∷ offset ∷ behind) (Memory (op (near c.1 align offset))) behind
+
+abbrev AreLike : (MemArg → MemoryOp) → List (ℕ × ℕ) → Type 0
+AreLike op [] = Unit {0}
+AreLike op (c ∷ cs) = IsLike op c × AreLike op cs
+
+like_of : (code natural : ℕ) (op actual : MemArg → MemoryOp) → from 0 forms code ≡ Some OfAccess → ((m : MemArg) → option_map (λ (f : MemArg → Op). f m) (at code access_ops) ≡ Some (Memory (actual m))) → ((m : MemArg) (cx : Context) → row_of cx (Memory (actual m)) ≡ row_of cx (Memory (op (record m { max_align = natural })))) → IsLike op (code, natural)
+like_of code natural op actual e f same = λ align offset behind a o. record {
+  actual = Memory (actual (near 0 align offset));
+  is_read = λ types. access_read code align offset (Memory (actual (near 0 align offset))) e a o (f (near 0 align offset)) types behind;
+  same_row = λ cx. same (near 0 align offset) cx;
+}
+
+either : (a b : Bool) → (a || b) ≡ true → (a ≡ true) ⊎ (b ≡ true)
+either true b h = inl refl
+either false b h = inr h
+
+like_among : (op : MemArg → MemoryOp) (code natural : ℕ) (cs : List (ℕ × ℕ)) → is_among code natural cs ≡ true → AreLike op cs → IsLike op (code, natural)
+like_among op code natural [] h all = absurd (clash h)
+like_among op code natural (c ∷ cs) h all = elim (either (nat_eq code c.0 && nat_eq natural c.1) (is_among code natural cs) h) [
+  | inl e ↦
+      let both = and_parts (nat_eq code c.0) (nat_eq natural c.1) e in
+      subst (λ k. IsLike op (k, natural)) (sym (eqb-true code c.0 both.0)) (subst (λ n. IsLike op (c.0, n)) (sym (eqb-true natural c.1 both.1)) all.0)
+  | inr e ↦ like_among op code natural cs e all.1
+]
+
+abbrev load : NumberType → MemArg → MemoryOp
+load ty m = Load ty m
+
+abbrev store : NumberType → MemArg → MemoryOp
+store ty m = Store ty m
+
+loads32 : AreLike (load I32) load32_codes
+unfolding forms access_ops
+loads32 = (
+  like_of 0x28 2 (load I32) (λ m. Load I32 (natural 2 m)) refl (λ m. refl) (λ m cx. refl),
+  (
+    like_of 0x2c 0 (load I32) (λ m. LoadPacked I32Bits8 Signed (natural 0 m)) refl (λ m. refl) (λ m cx. refl),
+    (
+      like_of 0x2d 0 (load I32) (λ m. LoadPacked I32Bits8 Unsigned (natural 0 m)) refl (λ m. refl) (λ m cx. refl),
+      (
+        like_of 0x2e 1 (load I32) (λ m. LoadPacked I32Bits16 Signed (natural 1 m)) refl (λ m. refl) (λ m cx. refl),
+        (
+          like_of 0x2f 1 (load I32) (λ m. LoadPacked I32Bits16 Unsigned (natural 1 m)) refl (λ m. refl) (λ m cx. refl),
+          tt,
+        ),
+      ),
+    ),
+  ),
+)
+
+loads64 : AreLike (load I64) load64_codes
+unfolding forms access_ops
+loads64 = (
+  like_of 0x29 3 (load I64) (λ m. Load I64 (natural 3 m)) refl (λ m. refl) (λ m cx. refl),
+  (
+    like_of 0x30 0 (load I64) (λ m. LoadPacked I64Bits8 Signed (natural 0 m)) refl (λ m. refl) (λ m cx. refl),
+    (
+      like_of 0x31 0 (load I64) (λ m. LoadPacked I64Bits8 Unsigned (natural 0 m)) refl (λ m. refl) (λ m cx. refl),
+      (
+        like_of 0x32 1 (load I64) (λ m. LoadPacked I64Bits16 Signed (natural 1 m)) refl (λ m. refl) (λ m cx. refl),
+        (
+          like_of 0x33 1 (load I64) (λ m. LoadPacked I64Bits16 Unsigned (natural 1 m)) refl (λ m. refl) (λ m cx. refl),
+          (
+            like_of 0x34 2 (load I64) (λ m. LoadPacked I64Bits32 Signed (natural 2 m)) refl (λ m. refl) (λ m cx. refl),
+            (
+              like_of 0x35 2 (load I64) (λ m. LoadPacked I64Bits32 Unsigned (natural 2 m)) refl (λ m. refl) (λ m cx. refl),
+              tt,
+            ),
+          ),
+        ),
+      ),
+    ),
+  ),
+)
+
+stores32 : AreLike (store I32) store32_codes
+unfolding forms access_ops
+stores32 = (
+  like_of 0x36 2 (store I32) (λ m. Store I32 (natural 2 m)) refl (λ m. refl) (λ m cx. refl),
+  (
+    like_of 0x3a 0 (store I32) (λ m. StorePacked I32Bits8 (natural 0 m)) refl (λ m. refl) (λ m cx. refl),
+    (
+      like_of 0x3b 1 (store I32) (λ m. StorePacked I32Bits16 (natural 1 m)) refl (λ m. refl) (λ m cx. refl),
+      tt,
+    ),
+  ),
+)
+
+stores64 : AreLike (store I64) store64_codes
+unfolding forms access_ops
+stores64 = (
+  like_of 0x37 3 (store I64) (λ m. Store I64 (natural 3 m)) refl (λ m. refl) (λ m cx. refl),
+  (
+    like_of 0x3c 0 (store I64) (λ m. StorePacked I64Bits8 (natural 0 m)) refl (λ m. refl) (λ m cx. refl),
+    (
+      like_of 0x3d 1 (store I64) (λ m. StorePacked I64Bits16 (natural 1 m)) refl (λ m. refl) (λ m cx. refl),
+      (
+        like_of 0x3e 2 (store I64) (λ m. StorePacked I64Bits32 (natural 2 m)) refl (λ m. refl) (λ m cx. refl),
+        tt,
+      ),
+    ),
+  ),
+)
+
+loads_f32 : AreLike (load F32) ((0x2a, 2) ∷ [])
+unfolding forms access_ops
+loads_f32 = (like_of 0x2a 2 (load F32) (λ m. Load F32 (natural 2 m)) refl (λ m. refl) (λ m cx. refl), tt)
+
+loads_f64 : AreLike (load F64) ((0x2b, 3) ∷ [])
+unfolding forms access_ops
+loads_f64 = (like_of 0x2b 3 (load F64) (λ m. Load F64 (natural 3 m)) refl (λ m. refl) (λ m cx. refl), tt)
+
+stores_f32 : AreLike (store F32) ((0x38, 2) ∷ [])
+unfolding forms access_ops
+stores_f32 = (like_of 0x38 2 (store F32) (λ m. Store F32 (natural 2 m)) refl (λ m. refl) (λ m cx. refl), tt)
+
+stores_f64 : AreLike (store F64) ((0x39, 3) ∷ [])
+unfolding forms access_ops
+stores_f64 = (like_of 0x39 3 (store F64) (λ m. Store F64 (natural 3 m)) refl (λ m. refl) (λ m cx. refl), tt)
+
+-- what is behind the code and the place is left
+pub near_like : {bytes : List ℕ} {op : MemArg → MemoryOp} {n o p : ℕ} {place : MemArg} {r s : Unread} → BeginAccess bytes op n → r ≡ record { offset = o; left = drop 1 bytes } → IsNear r.left n place → s ≡ record { offset = p; left = drop 2 r.left } → BeginLike bytes (Memory (op place)) s.left
+near_like {bytes} {op} {n} {o} {p} {place} {r} {s} access f near_place g =
+    let rest : r.left ≡ drop 1 bytes = ap (λ (x : Unread). x.left) f in
+    let behind : s.left ≡ drop 2 r.left = ap (λ (x : Unread). x.left) g in
+    let whole : bytes ≡ access.code ∷ near_place.align ∷ near_place.offset ∷ s.left =
+    access.begins ∙ ap (λ bs. access.code ∷ bs) (sym rest ∙ near_place.begins ∙ ap (λ bs. near_place.align ∷ near_place.offset ∷ bs) (sym behind)) in
+    let like = access.like near_place.align near_place.offset s.left near_place.one_byte near_place.one_more in
+    subst (λ m. BeginLike bytes (Memory (op m)) s.left) (sym near_place.is_place) (subst (λ b. BeginLike b (Memory (op (near n near_place.align near_place.offset))) s.left) (sym whole) like)
+
+pub one_there : {bytes : List ℕ} {op : MemArg → MemoryOp} {n : ℕ} → BeginAccess bytes op n → 1 ≤ length bytes
+one_there {bytes} access =
+    let one : length bytes ≡ suc (length (drop 1 bytes)) = ap (λ bs. length bs) access.begins in
+    omega (arith, one)
+
+pub two_there : {bytes : List ℕ} {n : ℕ} {place : MemArg} → IsNear bytes n place → 2 ≤ length bytes
+two_there {bytes} near_place =
+    let two : length bytes ≡ suc (suc (length (drop 2 bytes))) = ap (λ bs. length bs) near_place.begins in
+    omega (arith, two)
+
+-- the bytes are these two and others
 pub record AreTwo (bytes : List ℕ) (code next : ℕ) (rest behind : List ℕ) : Type 0 where
   pub begins : bytes ≡ code ∷ rest
   pub goes_on : rest ≡ next ∷ behind
 
-pub two_of : {bytes : List ℕ} {code next o p : ℕ} {r s : Unread} → bytes ≡ code ∷ next ∷ drop 2 bytes → r ≡ record { offset = o; left = drop 1 bytes } → s ≡ record { offset = p; left = drop 2 bytes } → AreTwo bytes code next r.left s.left
-two_of {bytes} {code} {next} {o} {p} {r} {s} e f g =
-    let one : r.left ≡ drop 1 bytes = ap (λ (x : Unread). x.left) f in
-    let two : s.left ≡ drop 2 bytes = ap (λ (x : Unread). x.left) g in
-    let more : r.left ≡ next ∷ s.left = one ∙ ap (λ bs. drop 1 bs) e ∙ ap (λ bs. next ∷ bs) (sym two) in
-    record { begins = e ∙ ap (λ bs. code ∷ next ∷ bs) (sym two) ∙ ap (λ bs. code ∷ bs) (sym more); goes_on = more }
+pub two_of : {bytes : List ℕ} {code next : ℕ} → bytes ≡ code ∷ next ∷ drop 2 bytes → AreTwo bytes code next (drop 1 bytes) (drop 2 bytes)
+two_of {bytes} {code} {next} e =
+    let more : drop 1 bytes ≡ next ∷ drop 2 bytes = ap (λ bs. drop 1 bs) e in
+    record { begins = e ∙ ap (λ bs. code ∷ bs) (sym more); goes_on = more }
+
+-- an operator of one byte, and one of both
+pub of_one : {bytes : List ℕ} {code next : ℕ} {op : Op} → bytes ≡ code ∷ next ∷ drop 2 bytes → (AreTwo bytes code next (drop 1 bytes) (drop 2 bytes) → BeginLike bytes op (drop 1 bytes)) → BeginAs bytes op 1
+of_one {bytes} {code} {next} {op} e like =
+    let two : length bytes ≡ suc (suc (length (drop 2 bytes))) = ap (λ bs. length bs) e in
+    record { are_there = omega (arith, two); like = like (two_of e) }
+
+pub of_both : {bytes : List ℕ} {code next : ℕ} {op : Op} → bytes ≡ code ∷ next ∷ drop 2 bytes → (AreTwo bytes code next (drop 1 bytes) (drop 2 bytes) → BeginLike bytes op (drop 2 bytes)) → BeginAs bytes op 2
+of_both {bytes} {code} {next} {op} e like =
+    let two : length bytes ≡ suc (suc (length (drop 2 bytes))) = ap (λ bs. length bs) e in
+    record { are_there = omega (arith, two); like = like (two_of e) }
 
 pub end_begins : {r t : Unread} {code : ℕ} {rest : List ℕ} → r ≡ t → r.left ≡ code ∷ rest → code ≡ 0x0b → BeginLike t.left (Control EndOp) rest
 unfolding operator forms plain_ops
@@ -352,3 +523,39 @@ module _ {bytes : List ℕ} {code next : ℕ} {rest behind : List ℕ} (two : Ar
   pub if_like : If ≡ get_or kinds code Rare → nat_eq next 0x40 ≡ true → BeginLike bytes (Control (IfOp Empty)) behind
   unfolding is_common operator forms block_op block_type block_ops
   if_like e empty = opener_like 0x04 (IfOp Empty) (common_there code If e) (λ types bs. refl) empty
+
+module _ {bytes : List ℕ} {code next : ℕ} (e : bytes ≡ code ∷ next ∷ drop 2 bytes) where
+  of_access : (op : MemArg → MemoryOp) (n : ℕ) → IsLike op (code, n) → BeginAccess bytes op n
+  of_access op n like = record { code = code; begins = (two_of e).begins; like = like }
+
+  pub load32_like : {n : ℕ} → Load32 n ≡ get_or kinds code Rare → BeginAccess bytes (λ m. Load I32 m) n
+  unfolding is_common
+  load32_like {n} k = of_access (load I32) n (like_among (load I32) code n load32_codes (common_there code (Load32 n) k) loads32)
+
+  pub load64_like : {n : ℕ} → Load64 n ≡ get_or kinds code Rare → BeginAccess bytes (λ m. Load I64 m) n
+  unfolding is_common
+  load64_like {n} k = of_access (load I64) n (like_among (load I64) code n load64_codes (common_there code (Load64 n) k) loads64)
+
+  pub load_f32_like : {n : ℕ} → LoadF32 n ≡ get_or kinds code Rare → BeginAccess bytes (λ m. Load F32 m) n
+  unfolding is_common
+  load_f32_like {n} k = of_access (load F32) n (like_among (load F32) code n ((0x2a, 2) ∷ []) (common_there code (LoadF32 n) k) loads_f32)
+
+  pub load_f64_like : {n : ℕ} → LoadF64 n ≡ get_or kinds code Rare → BeginAccess bytes (λ m. Load F64 m) n
+  unfolding is_common
+  load_f64_like {n} k = of_access (load F64) n (like_among (load F64) code n ((0x2b, 3) ∷ []) (common_there code (LoadF64 n) k) loads_f64)
+
+  pub store32_like : {n : ℕ} → Store32 n ≡ get_or kinds code Rare → BeginAccess bytes (λ m. Store I32 m) n
+  unfolding is_common
+  store32_like {n} k = of_access (store I32) n (like_among (store I32) code n store32_codes (common_there code (Store32 n) k) stores32)
+
+  pub store64_like : {n : ℕ} → Store64 n ≡ get_or kinds code Rare → BeginAccess bytes (λ m. Store I64 m) n
+  unfolding is_common
+  store64_like {n} k = of_access (store I64) n (like_among (store I64) code n store64_codes (common_there code (Store64 n) k) stores64)
+
+  pub store_f32_like : {n : ℕ} → StoreF32 n ≡ get_or kinds code Rare → BeginAccess bytes (λ m. Store F32 m) n
+  unfolding is_common
+  store_f32_like {n} k = of_access (store F32) n (like_among (store F32) code n ((0x38, 2) ∷ []) (common_there code (StoreF32 n) k) stores_f32)
+
+  pub store_f64_like : {n : ℕ} → StoreF64 n ≡ get_or kinds code Rare → BeginAccess bytes (λ m. Store F64 m) n
+  unfolding is_common
+  store_f64_like {n} k = of_access (store F64) n (like_among (store F64) code n ((0x39, 3) ∷ []) (common_there code (StoreF64 n) k) stores_f64)

@@ -1,7 +1,5 @@
 -- What passes at once is a turn, and otherwise nothing is changed.
-use Rattle.std.proofs.Common.{◌≡◌, ℕ, Bool, true, false, List, ◌++◌, Some, Ok, Err, refl, sym, subst}
-use Rattle.binary_operators.specs.Instructions.{operator as operator_of}
-use Rattle.binary_operators.specs.Unplaced.{unplaced}
+use Rattle.std.proofs.Common.{◌≡◌, ℕ, Bool, true, false, List, Ok, Err, refl, sym, subst}
 use Rattle.binary_operators.specs.Unread.{Unread}
 use Rattle.binary_operators.specs.declared.types.CanonicalTypes.{CanonicalTypes}
 use Rattle.validate_resources.specs.Context.{ModuleContext}
@@ -17,7 +15,7 @@ use Rattle.validate_stacks.specs.Visits.{step_body, Meets}
 use Rattle.validation_rules.specs.Static.{RowFails}
 use Rattle.validate_stacks.proofs.AtOnce.{done_at_once, same_at_once}
 use Rattle.module_check.specs.FirstBytes.{BeginLike}
-use Rattle.module_check.specs.Turns.{IsTurn, Passes, PassesBytes}
+use Rattle.module_check.specs.Turns.{IsTurn, Passes}
 
 module _ (md : ModuleContext) where
   turned : (op : Op) (bytes behind : List ℕ) (v w : BodyState) → BeginLike bytes op behind → Meets md (λ cx. operator cx op) 0 v (Ok tt) w → (types : CanonicalTypes) → IsTurn md types bytes behind v w
@@ -49,30 +47,6 @@ module _ (md : ModuleContext) where
   unfolding Passes
   same_of true r s v w p is = cc
   same_of false r s v w p is = p
-
-  pub bytes_at_once : (op : Op) (bytes : List ℕ) (v w : Stacked) (b : Bool) → ((types : CanonicalTypes) (behind : List ℕ) → operator_of types (bytes ++ behind) ≡ Some (unplaced op, behind)) → MeetsAtOnce md (λ cx. operator cx op) v b w → PassesBytes md b bytes v w
-  unfolding PassesBytes
-  bytes_at_once op bytes v w true read m = λ types behind. record {
-    op = op;
-    offset = 0;
-    is_read = read types behind;
-    meets = done_at_once md (λ cx. operator cx op) v w true m refl 0;
-  }
-  bytes_at_once op bytes v w false read m = same_at_once md (λ cx. operator cx op) v w false m refl
-
-  pub bytes_unchanged : (bytes : List ℕ) (v : Stacked) → PassesBytes md false bytes v v
-  unfolding PassesBytes
-  bytes_unchanged bytes v = refl
-
-  pub bytes_turn : (b : Bool) (bytes : List ℕ) (r s : Unread) (v w : Stacked) → PassesBytes md b bytes v w → b ≡ true → r.left ≡ bytes ++ s.left → Passes md true r s v w
-  unfolding Passes PassesBytes
-  bytes_turn true bytes r s v w p is e = λ types. subst (λ left. IsTurn md types left s.left v.body w.body) (sym e) (p types s.left)
-  bytes_turn false bytes r s v w p is e = cc
-
-  pub bytes_same : (b : Bool) (bytes : List ℕ) (r : Unread) (v w : Stacked) → PassesBytes md b bytes v w → b ≡ false → Passes md false r r v w
-  unfolding Passes PassesBytes
-  bytes_same true bytes r v w p is = cc
-  bytes_same false bytes r v w p is = (refl, p)
 
   -- a visit that is refused
   pub fails : (op : Context → Operator) (offset : ℕ) (v w : BodyState) (e : ErrorValue) → Meets md op offset v (Err e) w → e.wants_memory ≡ false → RowFails (step_body md op v) × (e.offset ≡ offset)

@@ -50,10 +50,11 @@ IsInvalidThere cx types may state bytes =
 abbrev pub end_of : BytesUnread → ℕ
 end_of reader = reader.offset + length reader.left
 
--- What stands there, in this state, is what the error tells. Where it is refused, that begins at the offset that is told:
--- so many bytes before the end of the body.
+-- What stands there, in this state, is what the error tells. What isn't read are some bytes. What is refused begins at the
+-- offset that is told: so many bytes before the end of the body.
 abbrev pub IsFault : Context → CanonicalTypes → (Op → Bool) → ℕ → State → List ℕ → CheckError → Type 0
-IsFault cx types may end state bytes (Unread e) = (state.frames ≢ []) × IsUnreadable types e.cause bytes
+IsFault cx types may end state bytes (Unread e) =
+    (state.frames ≢ []) × (bytes ≢ []) × IsUnreadable types e.cause bytes
 IsFault cx types may end state bytes (Refused e) =
     e.wants_memory ≡ false → IsInvalidThere cx types may state bytes × (e.offset ≡ end - length bytes)
 

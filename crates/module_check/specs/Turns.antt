@@ -1,5 +1,5 @@
 -- What one turn of the check of a body comes to: an operator is read and accepted (the crate's own).
-use Rattle.std.specs.Prelude.{◌≡◌, ℕ, Bool, List, ◌++◌, Some, Ok, MatchBool}
+use Rattle.std.specs.Prelude.{◌≡◌, ℕ, Bool, List, Some, Ok, MatchBool}
 use Rattle.binary_operators.specs.Instructions.{operator}
 use Rattle.binary_operators.specs.Unplaced.{unplaced}
 use Rattle.binary_operators.specs.Unread.{Unread}
@@ -23,8 +23,3 @@ pub record IsTurn
 unfoldable pub Passes : ModuleContext → Bool → Unread → Unread → Stacked → Stacked → Type 0
 Passes md answer r s v w =
     MatchBool answer ((types : CanonicalTypes) → IsTurn md types r.left s.left v.body w.body) ((s ≡ r) × (w ≡ v))
-
--- the same of an operator that these bytes are, whatever is behind them
-unfoldable pub PassesBytes : ModuleContext → Bool → List ℕ → Stacked → Stacked → Type 0
-PassesBytes md answer bytes v w = MatchBool answer
-    ((types : CanonicalTypes) (behind : List ℕ) → IsTurn md types (bytes ++ behind) behind v.body w.body) (w ≡ v)

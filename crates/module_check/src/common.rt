@@ -1,28 +1,29 @@
 //! The operators that most code is made of. Their first byte tells them, and each is checked as it is read.
 
-ghost use Rattle.std.specs.Prelude.{◌≡◌, [], ◌∷◌, true, pos, get_or};
-ghost use Rattle.module_check.specs.declared.common.Common.TheVariants.{Access, Rare};
+ghost use Rattle.std.specs.Prelude.{◌≡◌, true, pos, get_or, drop, IfSome};
+ghost use Rattle.module_check.specs.declared.common.Common.TheVariants.{Rare};
 ghost use Rattle.validate_visit.specs.declared.numeric.IntegerBinaryOp.{IntegerBinaryOp};
 ghost use Rattle.validate_visit.specs.declared.numeric.IntegerComparisonOp.{IntegerComparisonOp};
 ghost use Rattle.validate_visit.specs.declared.op.NumericOp.{NumericOp};
+ghost use Rattle.validate_visit.specs.declared.op.MemoryOp.{MemoryOp};
 ghost use Rattle.validate_visit.specs.declared.op.Op.{Op};
 ghost use Rattle.validate_operators.specs.Validator.{stacks_of};
 ghost use Rattle.validate_stacks.specs.Visits.{MayVisit};
-ghost use Rattle.module_check.specs.Turns.{Passes, PassesBytes};
-ghost use Rattle.module_check.specs.FirstBytes.{kinds, BeginLike};
+ghost use Rattle.module_check.specs.Turns.{Passes};
+ghost use Rattle.module_check.specs.FirstBytes.{kinds, BeginAs, BeginLike, BeginAccess, IsNear};
 
 use crate::common::Common::{
-    Access, Binary32, Binary64, Block, Br, BrIf, Call, Compare32, Compare64, Constant32, Drop, End,
-    GlobalGet, GlobalSet, If, LocalGet, LocalSet, LocalTee, Loop, Nop, Rare, Return, Select,
-    Test32,
+    Binary32, Binary64, Block, Br, BrIf, Call, Compare32, Compare64, Constant32, Drop, End,
+    GlobalGet, GlobalSet, If, Load32, Load64, LoadF32, LoadF64, LocalGet, LocalSet, LocalTee, Loop,
+    Nop, Rare, Return, Select, Store32, Store64, StoreF32, StoreF64, Test32,
 };
-use binary_operators::{BinaryReader, access_op};
+use binary_operators::BinaryReader;
 use validate_operators::OperatorValidator;
 use validate_resources::WasmModuleResources;
 use validate_visit::BlockType::Empty;
 use validate_visit::{
     ControlOp, IntegerBinaryOp, IntegerComparisonOp, IntegerType, MemArg, MemArgTarget, MemoryOp,
-    NumericOp, Op,
+    NumberType, NumericOp, Op,
 };
 
 /// An operator, as far as its first byte tells it.
@@ -74,52 +75,298 @@ enum Common {
     Binary32,
     /// An integer of 64 bits out of two.
     Binary64,
-    /// A load or a store.
-    Access,
+    /// A load of an integer of 32 bits, with its natural alignment.
+    Load32(u8),
+    /// A load of an integer of 64 bits.
+    Load64(u8),
+    /// A load of a float of 32 bits.
+    LoadF32(u8),
+    /// A load of a float of 64 bits.
+    LoadF64(u8),
+    /// A store of an integer of 32 bits, with its natural alignment.
+    Store32(u8),
+    /// A store of an integer of 64 bits.
+    Store64(u8),
+    /// A store of a float of 32 bits.
+    StoreF32(u8),
+    /// A store of a float of 64 bits.
+    StoreF64(u8),
 }
 
 /// By their first byte, from 0x00 on.
 static COMMON: [Common; 256] = [
     // from 0x00 on
-    Rare, Nop, Block, Loop, If, Rare, Rare, Rare, Rare, Rare, Rare, End, Br, BrIf, Rare, Return,
+    Rare,
+    Nop,
+    Block,
+    Loop,
+    If,
+    Rare,
+    Rare,
+    Rare,
+    Rare,
+    Rare,
+    Rare,
+    End,
+    Br,
+    BrIf,
+    Rare,
+    Return,
     // from 0x10 on
-    Call, Rare, Rare, Rare, Rare, Rare, Rare, Rare, Rare, Rare, Drop, Select, Rare, Rare, Rare,
+    Call,
+    Rare,
+    Rare,
+    Rare,
+    Rare,
+    Rare,
+    Rare,
+    Rare,
+    Rare,
+    Rare,
+    Drop,
+    Select,
+    Rare,
+    Rare,
+    Rare,
     Rare,
     // from 0x20 on
-    LocalGet, LocalSet, LocalTee, GlobalGet, GlobalSet, Rare, Rare, Rare, Access, Access, Access,
-    Access, Access, Access, Access, Access,
+    LocalGet,
+    LocalSet,
+    LocalTee,
+    GlobalGet,
+    GlobalSet,
+    Rare,
+    Rare,
+    Rare,
+    Load32(2),
+    Load64(3),
+    LoadF32(2),
+    LoadF64(3),
+    Load32(0),
+    Load32(0),
+    Load32(1),
+    Load32(1),
     // from 0x30 on
-    Access, Access, Access, Access, Access, Access, Access, Access, Access, Access, Access, Access,
-    Access, Access, Access, Rare,
+    Load64(0),
+    Load64(0),
+    Load64(1),
+    Load64(1),
+    Load64(2),
+    Load64(2),
+    Store32(2),
+    Store64(3),
+    StoreF32(2),
+    StoreF64(3),
+    Store32(0),
+    Store32(1),
+    Store64(0),
+    Store64(1),
+    Store64(2),
+    Rare,
     // from 0x40 on
-    Rare, Constant32, Rare, Rare, Rare, Test32, Compare32, Compare32, Compare32, Compare32,
-    Compare32, Compare32, Compare32, Compare32, Compare32, Compare32,
+    Rare,
+    Constant32,
+    Rare,
+    Rare,
+    Rare,
+    Test32,
+    Compare32,
+    Compare32,
+    Compare32,
+    Compare32,
+    Compare32,
+    Compare32,
+    Compare32,
+    Compare32,
+    Compare32,
+    Compare32,
     // from 0x50 on
-    Rare, Compare64, Compare64, Compare64, Compare64, Compare64, Compare64, Compare64, Compare64,
-    Compare64, Compare64, Rare, Rare, Rare, Rare, Rare,
+    Rare,
+    Compare64,
+    Compare64,
+    Compare64,
+    Compare64,
+    Compare64,
+    Compare64,
+    Compare64,
+    Compare64,
+    Compare64,
+    Compare64,
+    Rare,
+    Rare,
+    Rare,
+    Rare,
+    Rare,
     // from 0x60 on
-    Rare, Rare, Rare, Rare, Rare, Rare, Rare, Rare, Rare, Rare, Binary32, Binary32, Binary32,
-    Binary32, Binary32, Binary32,
+    Rare,
+    Rare,
+    Rare,
+    Rare,
+    Rare,
+    Rare,
+    Rare,
+    Rare,
+    Rare,
+    Rare,
+    Binary32,
+    Binary32,
+    Binary32,
+    Binary32,
+    Binary32,
+    Binary32,
     // from 0x70 on
-    Binary32, Binary32, Binary32, Binary32, Binary32, Binary32, Binary32, Binary32, Binary32, Rare,
-    Rare, Rare, Binary64, Binary64, Binary64, Binary64,
+    Binary32,
+    Binary32,
+    Binary32,
+    Binary32,
+    Binary32,
+    Binary32,
+    Binary32,
+    Binary32,
+    Binary32,
+    Rare,
+    Rare,
+    Rare,
+    Binary64,
+    Binary64,
+    Binary64,
+    Binary64,
     // from 0x80 on
-    Binary64, Binary64, Binary64, Binary64, Binary64, Binary64, Binary64, Binary64, Binary64,
-    Binary64, Binary64, Rare, Rare, Rare, Rare, Rare,
+    Binary64,
+    Binary64,
+    Binary64,
+    Binary64,
+    Binary64,
+    Binary64,
+    Binary64,
+    Binary64,
+    Binary64,
+    Binary64,
+    Binary64,
+    Rare,
+    Rare,
+    Rare,
+    Rare,
+    Rare,
     // from 0x90 on
-    Rare, Rare, Rare, Rare, Rare, Rare, Rare, Rare, Rare, Rare, Rare, Rare, Rare, Rare, Rare, Rare,
+    Rare,
+    Rare,
+    Rare,
+    Rare,
+    Rare,
+    Rare,
+    Rare,
+    Rare,
+    Rare,
+    Rare,
+    Rare,
+    Rare,
+    Rare,
+    Rare,
+    Rare,
+    Rare,
     // from 0xa0 on
-    Rare, Rare, Rare, Rare, Rare, Rare, Rare, Rare, Rare, Rare, Rare, Rare, Rare, Rare, Rare, Rare,
+    Rare,
+    Rare,
+    Rare,
+    Rare,
+    Rare,
+    Rare,
+    Rare,
+    Rare,
+    Rare,
+    Rare,
+    Rare,
+    Rare,
+    Rare,
+    Rare,
+    Rare,
+    Rare,
     // from 0xb0 on
-    Rare, Rare, Rare, Rare, Rare, Rare, Rare, Rare, Rare, Rare, Rare, Rare, Rare, Rare, Rare, Rare,
+    Rare,
+    Rare,
+    Rare,
+    Rare,
+    Rare,
+    Rare,
+    Rare,
+    Rare,
+    Rare,
+    Rare,
+    Rare,
+    Rare,
+    Rare,
+    Rare,
+    Rare,
+    Rare,
     // from 0xc0 on
-    Rare, Rare, Rare, Rare, Rare, Rare, Rare, Rare, Rare, Rare, Rare, Rare, Rare, Rare, Rare, Rare,
+    Rare,
+    Rare,
+    Rare,
+    Rare,
+    Rare,
+    Rare,
+    Rare,
+    Rare,
+    Rare,
+    Rare,
+    Rare,
+    Rare,
+    Rare,
+    Rare,
+    Rare,
+    Rare,
     // from 0xd0 on
-    Rare, Rare, Rare, Rare, Rare, Rare, Rare, Rare, Rare, Rare, Rare, Rare, Rare, Rare, Rare, Rare,
+    Rare,
+    Rare,
+    Rare,
+    Rare,
+    Rare,
+    Rare,
+    Rare,
+    Rare,
+    Rare,
+    Rare,
+    Rare,
+    Rare,
+    Rare,
+    Rare,
+    Rare,
+    Rare,
     // from 0xe0 on
-    Rare, Rare, Rare, Rare, Rare, Rare, Rare, Rare, Rare, Rare, Rare, Rare, Rare, Rare, Rare, Rare,
+    Rare,
+    Rare,
+    Rare,
+    Rare,
+    Rare,
+    Rare,
+    Rare,
+    Rare,
+    Rare,
+    Rare,
+    Rare,
+    Rare,
+    Rare,
+    Rare,
+    Rare,
+    Rare,
     // from 0xf0 on
-    Rare, Rare, Rare, Rare, Rare, Rare, Rare, Rare, Rare, Rare, Rare, Rare, Rare, Rare, Rare, Rare,
+    Rare,
+    Rare,
+    Rare,
+    Rare,
+    Rare,
+    Rare,
+    Rare,
+    Rare,
+    Rare,
+    Rare,
+    Rare,
+    Rare,
+    Rare,
+    Rare,
+    Rare,
+    Rare,
 ];
 
 /// What an operator is that begins with this byte.
@@ -171,110 +418,117 @@ pub(crate) fn passes_memory<'a, R: WasmModuleResources>(
     false
 }
 
-/// The byte behind a code.
-#[derive(Drop)]
-struct NextByte<'a> {
-    /// Whether it is the whole of an immediate that the operator may have.
-    is_fit: bool,
-    /// What is behind it.
-    behind: BinaryReader<'a>,
-}
-
-/// [`passes`] of an operator on control or variables with this byte, if that is fit.
+/// [`passes`] of an operator that is so many bytes.
 #[inline(always)]
-#[tactic(auto, using(crate::proofs::Turned::unchanged))]
-fn passes_with<'a, R: WasmModuleResources>(
+fn passes_bytes<R: WasmModuleResources>(
     v: &mut OperatorValidator,
     resources: &R,
-    reader: &mut BinaryReader<'a>,
-    next: NextByte<'a>,
+    reader: &mut BinaryReader<'_>,
+    count: usize,
+    op: Op<'_>,
+) -> bool
+    requires visit { MayVisit (R.context resources.now) (stacks_of v.old) }
+    requires like { BeginAs reader.old.left op count }
+    ensures { Passes (R.context resources.now) result reader.old reader.new (stacks_of v.old) (stacks_of v.new) }
+{
+    let rest = reader.behind(count);
+    passes(v, resources, reader, rest, op)
+}
+
+/// [`passes_bytes`] of an operator on control or variables that is two bytes, if the second is fit.
+#[inline(always)]
+#[tactic(auto, using(crate::proofs::Turned::unchanged))]
+fn passes_with<R: WasmModuleResources>(
+    v: &mut OperatorValidator,
+    resources: &R,
+    reader: &mut BinaryReader<'_>,
+    is_fit: bool,
     op: ControlOp<'_>,
 ) -> bool
     requires visit { MayVisit (R.context resources.now) (stacks_of v.old) }
-    requires like { next.is_fit ≡ true → BeginLike reader.old.left (Op.Control op) next.behind.left }
+    requires like { is_fit ≡ true → BeginAs reader.old.left (Op.Control op) 2 }
     ensures { Passes (R.context resources.now) result reader.old reader.new (stacks_of v.old) (stacks_of v.new) }
 {
-    next.is_fit && passes(v, resources, reader, next.behind, Op::Control(op))
+    is_fit && passes_bytes(v, resources, reader, 2, Op::Control(op))
 }
 
-/// [`passes`] of an `i32.const` with this byte, if that is fit.
+/// [`passes_bytes`] of an `i32.const` that is two bytes, if the second is fit.
 #[inline(always)]
 #[tactic(auto, using(crate::proofs::Turned::unchanged))]
-fn passes_constant<'a, R: WasmModuleResources>(
+fn passes_constant<R: WasmModuleResources>(
     v: &mut OperatorValidator,
     resources: &R,
-    reader: &mut BinaryReader<'a>,
-    next: NextByte<'a>,
+    reader: &mut BinaryReader<'_>,
+    is_fit: bool,
 ) -> bool
     requires visit { MayVisit (R.context resources.now) (stacks_of v.old) }
-    requires like { next.is_fit ≡ true
-        → BeginLike reader.old.left (Op.Numeric (NumericOp.I32Const (pos 0))) next.behind.left }
+    requires like { is_fit ≡ true → BeginAs reader.old.left (Op.Numeric (NumericOp.I32Const (pos 0))) 2 }
     ensures { Passes (R.context resources.now) result reader.old reader.new (stacks_of v.old) (stacks_of v.new) }
 {
-    next.is_fit
-        && passes(
-            v,
-            resources,
-            reader,
-            next.behind,
-            Op::Numeric(NumericOp::I32Const(0)),
-        )
+    is_fit && passes_bytes(v, resources, reader, 2, Op::Numeric(NumericOp::I32Const(0)))
 }
 
-/// Whether a load or a store of this code passes at once. Its alignment and its offset are a byte each, and it is in the
-/// first memory.
-#[inline(never)]
-#[tactic(auto, using(crate::proofs::Turned::bytes_unchanged))]
-fn passes_near<R: WasmModuleResources>(
-    v: &mut OperatorValidator,
-    resources: &R,
-    code: u8,
-    align: u8,
-    offset: u8,
-) -> bool
-    requires visit { MayVisit (R.context resources.now) (stacks_of v.old) }
-    requires access { Access ≡ get_or kinds code Rare }
-    ensures { PassesBytes (R.context resources.now) result (code ∷ align ∷ offset ∷ []) (stacks_of v.old)
-        (stacks_of v.new) }
+/// The place in the first memory that is next, if its alignment and its offset are a byte each.
+#[inline(always)]
+fn near_place(reader: &BinaryReader<'_>, natural: u8) -> Option<MemArg>
+    ensures { IfSome result (λ place. IsNear reader.now.left natural place) }
 {
+    let Some((align, offset)) = reader.next_two() else {
+        return None;
+    };
     if align >= 0x40 || offset >= 0x80 {
-        return false;
+        return None;
     }
-    let memarg = MemArg {
+    Some(MemArg {
         align,
-        max_align: 0,
+        max_align: natural,
         offset: u64::from(offset),
         target: MemArgTarget::Memory(0),
-    };
-    match access_op(u32::from(code), memarg) {
-        Some(Op::Memory(op)) => v.memory_passes_at_once(resources, &op),
-        _ => false,
-    }
+    })
 }
 
-/// [`passes`] of a load or a store of this code, behind which the rest is left.
+/// [`passes`] of a load of this type, behind whose code a place in the first memory may be.
 #[inline(always)]
 #[tactic(auto, using(crate::proofs::Turned::unchanged))]
-fn passes_access<'a, R: WasmModuleResources>(
+fn passes_load<R: WasmModuleResources>(
     v: &mut OperatorValidator,
     resources: &R,
-    reader: &mut BinaryReader<'a>,
-    code: u8,
-    rest: BinaryReader<'a>,
+    reader: &mut BinaryReader<'_>,
+    natural: u8,
+    ty: NumberType,
 ) -> bool
     requires visit { MayVisit (R.context resources.now) (stacks_of v.old) }
-    requires access { Access ≡ get_or kinds code Rare }
-    requires rest { reader.old.left ≡ code ∷ rest.left }
+    requires like { BeginAccess reader.old.left (λ place. MemoryOp.Load ty place) natural }
     ensures { Passes (R.context resources.now) result reader.old reader.new (stacks_of v.old) (stacks_of v.new) }
 {
-    let Some((align, offset)) = rest.next_two() else {
+    let rest = reader.behind(1);
+    let Some(place) = near_place(&rest, natural) else {
         return false;
     };
-    if passes_near(v, resources, code, align, offset) {
-        *reader = rest.behind(2);
-        return true;
-    }
-    false
+    let loaded = MemoryOp::Load(ty, place);
+    passes_memory(v, resources, reader, rest.behind(2), loaded)
+}
+
+/// The same of a store.
+#[inline(always)]
+#[tactic(auto, using(crate::proofs::Turned::unchanged))]
+fn passes_store<R: WasmModuleResources>(
+    v: &mut OperatorValidator,
+    resources: &R,
+    reader: &mut BinaryReader<'_>,
+    natural: u8,
+    ty: NumberType,
+) -> bool
+    requires visit { MayVisit (R.context resources.now) (stacks_of v.old) }
+    requires like { BeginAccess reader.old.left (λ place. MemoryOp.Store ty place) natural }
+    ensures { Passes (R.context resources.now) result reader.old reader.new (stacks_of v.old) (stacks_of v.new) }
+{
+    let rest = reader.behind(1);
+    let Some(place) = near_place(&rest, natural) else {
+        return false;
+    };
+    let stored = MemoryOp::Store(ty, place);
+    passes_memory(v, resources, reader, rest.behind(2), stored)
 }
 
 /// [`passes`] of an `end`, if that is the next operator.
@@ -322,10 +576,10 @@ fn comparison(ty: IntegerType) -> Op<'static>
 /// Whether the next operator is a common one that passes at once. Then it is read; otherwise nothing is changed.
 #[inline(always)]
 #[tactic(auto, using(crate::proofs::Turned::unchanged))]
-pub(crate) fn passes_common<'a, R: WasmModuleResources>(
+pub(crate) fn passes_common<R: WasmModuleResources>(
     v: &mut OperatorValidator,
     resources: &R,
-    reader: &mut BinaryReader<'a>,
+    reader: &mut BinaryReader<'_>,
 ) -> bool
     requires visit { MayVisit (R.context resources.now) (stacks_of v.old) }
     ensures { Passes (R.context resources.now) result reader.old reader.new (stacks_of v.old) (stacks_of v.new) }
@@ -333,39 +587,38 @@ pub(crate) fn passes_common<'a, R: WasmModuleResources>(
     let Some((code, next)) = reader.next_two() else {
         return passes_end(v, resources, reader);
     };
-    let (rest, index) = (reader.behind(1), u32::from(next));
-    let indexed = NextByte {
-        is_fit: next < 0x80,
-        behind: reader.behind(2),
-    };
-    let opened = NextByte {
-        is_fit: next == 0x40,
-        behind: reader.behind(2),
-    };
+    let (is_index, is_empty, index) = (next < 0x80, next == 0x40, u32::from(next));
     match common_of(code) {
         Rare => false,
-        Nop => passes(v, resources, reader, rest, Op::Control(ControlOp::Nop)),
-        End => passes(v, resources, reader, rest, Op::Control(ControlOp::End)),
-        Return => passes(v, resources, reader, rest, Op::Control(ControlOp::Return)),
-        Drop => passes(v, resources, reader, rest, Op::Control(ControlOp::Drop)),
-        Select => passes(v, resources, reader, rest, Op::Control(ControlOp::Select)),
-        Test32 => passes(v, resources, reader, rest, zero_test(IntegerType::I32)),
-        Compare32 => passes(v, resources, reader, rest, comparison(IntegerType::I32)),
-        Compare64 => passes(v, resources, reader, rest, comparison(IntegerType::I64)),
-        Binary32 => passes(v, resources, reader, rest, binary(IntegerType::I32)),
-        Binary64 => passes(v, resources, reader, rest, binary(IntegerType::I64)),
-        Constant32 => passes_constant(v, resources, reader, indexed),
-        Br => passes_with(v, resources, reader, indexed, ControlOp::Br(index)),
-        BrIf => passes_with(v, resources, reader, indexed, ControlOp::BrIf(index)),
-        Call => passes_with(v, resources, reader, indexed, ControlOp::Call(index)),
-        LocalGet => passes_with(v, resources, reader, indexed, ControlOp::LocalGet(index)),
-        LocalSet => passes_with(v, resources, reader, indexed, ControlOp::LocalSet(index)),
-        LocalTee => passes_with(v, resources, reader, indexed, ControlOp::LocalTee(index)),
-        GlobalGet => passes_with(v, resources, reader, indexed, ControlOp::GlobalGet(index)),
-        GlobalSet => passes_with(v, resources, reader, indexed, ControlOp::GlobalSet(index)),
-        Block => passes_with(v, resources, reader, opened, ControlOp::Block(Empty)),
-        Loop => passes_with(v, resources, reader, opened, ControlOp::Loop(Empty)),
-        If => passes_with(v, resources, reader, opened, ControlOp::If(Empty)),
-        Access => passes_access(v, resources, reader, code, rest),
+        Nop => passes_bytes(v, resources, reader, 1, Op::Control(ControlOp::Nop)),
+        End => passes_bytes(v, resources, reader, 1, Op::Control(ControlOp::End)),
+        Return => passes_bytes(v, resources, reader, 1, Op::Control(ControlOp::Return)),
+        Drop => passes_bytes(v, resources, reader, 1, Op::Control(ControlOp::Drop)),
+        Select => passes_bytes(v, resources, reader, 1, Op::Control(ControlOp::Select)),
+        Test32 => passes_bytes(v, resources, reader, 1, zero_test(IntegerType::I32)),
+        Compare32 => passes_bytes(v, resources, reader, 1, comparison(IntegerType::I32)),
+        Compare64 => passes_bytes(v, resources, reader, 1, comparison(IntegerType::I64)),
+        Binary32 => passes_bytes(v, resources, reader, 1, binary(IntegerType::I32)),
+        Binary64 => passes_bytes(v, resources, reader, 1, binary(IntegerType::I64)),
+        Constant32 => passes_constant(v, resources, reader, is_index),
+        Br => passes_with(v, resources, reader, is_index, ControlOp::Br(index)),
+        BrIf => passes_with(v, resources, reader, is_index, ControlOp::BrIf(index)),
+        Call => passes_with(v, resources, reader, is_index, ControlOp::Call(index)),
+        LocalGet => passes_with(v, resources, reader, is_index, ControlOp::LocalGet(index)),
+        LocalSet => passes_with(v, resources, reader, is_index, ControlOp::LocalSet(index)),
+        LocalTee => passes_with(v, resources, reader, is_index, ControlOp::LocalTee(index)),
+        GlobalGet => passes_with(v, resources, reader, is_index, ControlOp::GlobalGet(index)),
+        GlobalSet => passes_with(v, resources, reader, is_index, ControlOp::GlobalSet(index)),
+        Block => passes_with(v, resources, reader, is_empty, ControlOp::Block(Empty)),
+        Loop => passes_with(v, resources, reader, is_empty, ControlOp::Loop(Empty)),
+        If => passes_with(v, resources, reader, is_empty, ControlOp::If(Empty)),
+        Load32(natural) => passes_load(v, resources, reader, natural, NumberType::I32),
+        Load64(natural) => passes_load(v, resources, reader, natural, NumberType::I64),
+        LoadF32(natural) => passes_load(v, resources, reader, natural, NumberType::F32),
+        LoadF64(natural) => passes_load(v, resources, reader, natural, NumberType::F64),
+        Store32(natural) => passes_store(v, resources, reader, natural, NumberType::I32),
+        Store64(natural) => passes_store(v, resources, reader, natural, NumberType::I64),
+        StoreF32(natural) => passes_store(v, resources, reader, natural, NumberType::F32),
+        StoreF64(natural) => passes_store(v, resources, reader, natural, NumberType::F64),
     }
 }

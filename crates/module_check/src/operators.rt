@@ -202,16 +202,19 @@ fn is_lent_accepted<R: WasmModuleResources>(
     is_accepted
 }
 
-/// [`is_lent_accepted`], which tries first whether it is one of those that most code is made of.
+/// [`is_lent_accepted`], which tries first whether it is one of those that most code is made of. The lookup is handed in, so
+/// that it isn't looked up for each.
 #[inline(always)]
 fn is_next_accepted<R: WasmModuleResources>(
     v: &mut OperatorValidator,
+    resources: &R,
     body: &OpenBody<'_, '_, R>,
     reader: &mut BinaryReader<'_>,
     lists: &mut OperatorLists,
     refusal: &mut Option<CheckError>,
 ) -> bool
-    requires { MayVisit (R.context body.now.context.now.resources.now) (stacks_of v.old) }
+    requires visit { MayVisit (R.context body.now.context.now.resources.now) (stacks_of v.old) }
+    requires same { resources.now ≡ body.now.context.now.resources.now }
     ensures turn { result ≡ true → IsTurn (R.context body.now.context.now.resources.now) body.now.context.now.types
         reader.old.left reader.new.left (state v.old) (state v.new) }
     ensures told { result ≡ false → IsSome refusal.new }
@@ -219,8 +222,7 @@ fn is_next_accepted<R: WasmModuleResources>(
         (body_context (R.context body.now.context.now.resources.now) (state v.old)) body.now.context.now.types
         (may_stand None) body.now.end (state v.old).present reader.old.left) }
 {
-    passes_common(v, body.context.resources, reader)
-        || is_lent_accepted(v, body, reader, lists, refusal)
+    passes_common(v, resources, reader) || is_lent_accepted(v, body, reader, lists, refusal)
 }
 
 /// [`check_operators`] of a function, in which any operator may stand.
@@ -237,9 +239,10 @@ fn check_function_operators<R: WasmModuleResources>(
         (may_stand None) body.now.end (state v.old) code.now.left) }
 {
     let mut refusal = None;
+    let resources = body.context.resources;
     let mut reader = code.duplicate();
     for _ in 0..code.bytes_left() {
-        if !is_next_accepted(v, body, &mut reader, lists, &mut refusal) {
+        if !is_next_accepted(v, resources, body, &mut reader, lists, &mut refusal) {
             return Err(match refusal {
                 Some(error) => error,
                 None => unclosed(body.offset_of(&reader)),

@@ -1,71 +1,95 @@
 -- What the first bytes tell is what the bytes begin with.
 use Rattle.std.proofs.Common.{sym, subst}
-use Rattle.module_check.specs.FirstBytes.{BeginLike}
-use Rattle.module_check.proofs.FirstBytes.{two_of, nop_like, end_like, return_like, drop_like, select_like, test32_like, compare32_like, compare64_like, binary32_like, binary64_like, constant_like, br_like, br_if_like, call_like, local_get_like, local_set_like, local_tee_like, global_get_like, global_set_like, block_like, loop_like, if_like}
+use Rattle.module_check.specs.FirstBytes.{BeginAs}
+use Rattle.module_check.proofs.FirstBytes.{of_one, of_both, nop_like, end_like, return_like, drop_like, select_like, test32_like, compare32_like, compare64_like, binary32_like, binary64_like, constant_like, br_like, br_if_like, call_like, local_get_like, local_set_like, local_tee_like, global_get_like, global_set_like, block_like, loop_like, if_like, load32_like, load64_like, load_f32_like, load_f64_like, store32_like, store64_like, store_f32_like, store_f64_like}
 use Rattle.module_check.proofs.common.passes_common.Goals as goal
 
-pub passes-requires-clause-like : goal.passes-requires-clause-like
-passes-requires-clause-like g c = nop_like (two_of c.in-Some.ensures.next c.behind-rest.ensures c.behind.ensures) c.in-Nop.ensures
+pub passes_bytes-requires-clause-like : goal.passes_bytes-requires-clause-like
+passes_bytes-requires-clause-like g c = of_one c.in-Some.ensures.next (λ two. nop_like two c.in-Nop.ensures)
 
-pub passes-requires-in-End-clause-like : goal.passes-requires-in-End-clause-like
-passes-requires-in-End-clause-like g c = end_like (two_of c.in-Some.ensures.next c.behind-rest.ensures c.behind.ensures) c.in-End.ensures
+pub passes_bytes-requires-in-End-clause-like : goal.passes_bytes-requires-in-End-clause-like
+passes_bytes-requires-in-End-clause-like g c = of_one c.in-Some.ensures.next (λ two. end_like two c.in-End.ensures)
 
-pub passes-requires-in-Return-clause-like : goal.passes-requires-in-Return-clause-like
-passes-requires-in-Return-clause-like g c = return_like (two_of c.in-Some.ensures.next c.behind-rest.ensures c.behind.ensures) c.in-Return.ensures
+pub passes_bytes-requires-in-Return-clause-like : goal.passes_bytes-requires-in-Return-clause-like
+passes_bytes-requires-in-Return-clause-like g c = of_one c.in-Some.ensures.next (λ two. return_like two c.in-Return.ensures)
 
-pub passes-requires-in-Drop-clause-like : goal.passes-requires-in-Drop-clause-like
-passes-requires-in-Drop-clause-like g c = drop_like (two_of c.in-Some.ensures.next c.behind-rest.ensures c.behind.ensures) c.in-Drop.ensures
+pub passes_bytes-requires-in-Drop-clause-like : goal.passes_bytes-requires-in-Drop-clause-like
+passes_bytes-requires-in-Drop-clause-like g c = of_one c.in-Some.ensures.next (λ two. drop_like two c.in-Drop.ensures)
 
-pub passes-requires-in-Select-clause-like : goal.passes-requires-in-Select-clause-like
-passes-requires-in-Select-clause-like g c = select_like (two_of c.in-Some.ensures.next c.behind-rest.ensures c.behind.ensures) c.in-Select.ensures
+pub passes_bytes-requires-in-Select-clause-like : goal.passes_bytes-requires-in-Select-clause-like
+passes_bytes-requires-in-Select-clause-like g c = of_one c.in-Some.ensures.next (λ two. select_like two c.in-Select.ensures)
 
-pub passes-requires-in-Test32-clause-like : goal.passes-requires-in-Test32-clause-like
-passes-requires-in-Test32-clause-like g c = subst (λ o. BeginLike c.args.reader.now.left o c.behind-rest.result.left) (sym c.zero_test.ensures) (test32_like (two_of c.in-Some.ensures.next c.behind-rest.ensures c.behind.ensures) c.in-Test32.ensures)
+pub passes_bytes-requires-in-Test32-clause-like : goal.passes_bytes-requires-in-Test32-clause-like
+passes_bytes-requires-in-Test32-clause-like g c = subst (λ o. BeginAs c.args.reader.now.left o 1) (sym c.zero_test.ensures) (of_one c.in-Some.ensures.next (λ two. test32_like two c.in-Test32.ensures))
 
-pub passes-requires-in-Compare32-clause-like : goal.passes-requires-in-Compare32-clause-like
-passes-requires-in-Compare32-clause-like g c = subst (λ o. BeginLike c.args.reader.now.left o c.behind-rest.result.left) (sym c.comparison.ensures) (compare32_like (two_of c.in-Some.ensures.next c.behind-rest.ensures c.behind.ensures) c.in-Compare32.ensures)
+pub passes_bytes-requires-in-Compare32-clause-like : goal.passes_bytes-requires-in-Compare32-clause-like
+passes_bytes-requires-in-Compare32-clause-like g c = subst (λ o. BeginAs c.args.reader.now.left o 1) (sym c.comparison.ensures) (of_one c.in-Some.ensures.next (λ two. compare32_like two c.in-Compare32.ensures))
 
-pub passes-requires-in-Compare64-clause-like : goal.passes-requires-in-Compare64-clause-like
-passes-requires-in-Compare64-clause-like g c = subst (λ o. BeginLike c.args.reader.now.left o c.behind-rest.result.left) (sym c.comparison-in-Compare64.ensures) (compare64_like (two_of c.in-Some.ensures.next c.behind-rest.ensures c.behind.ensures) c.in-Compare64.ensures)
+pub passes_bytes-requires-in-Compare64-clause-like : goal.passes_bytes-requires-in-Compare64-clause-like
+passes_bytes-requires-in-Compare64-clause-like g c = subst (λ o. BeginAs c.args.reader.now.left o 1) (sym c.comparison-in-Compare64.ensures) (of_one c.in-Some.ensures.next (λ two. compare64_like two c.in-Compare64.ensures))
 
-pub passes-requires-in-Binary32-clause-like : goal.passes-requires-in-Binary32-clause-like
-passes-requires-in-Binary32-clause-like g c = subst (λ o. BeginLike c.args.reader.now.left o c.behind-rest.result.left) (sym c.binary.ensures) (binary32_like (two_of c.in-Some.ensures.next c.behind-rest.ensures c.behind.ensures) c.in-Binary32.ensures)
+pub passes_bytes-requires-in-Binary32-clause-like : goal.passes_bytes-requires-in-Binary32-clause-like
+passes_bytes-requires-in-Binary32-clause-like g c = subst (λ o. BeginAs c.args.reader.now.left o 1) (sym c.binary.ensures) (of_one c.in-Some.ensures.next (λ two. binary32_like two c.in-Binary32.ensures))
 
-pub passes-requires-in-Binary64-clause-like : goal.passes-requires-in-Binary64-clause-like
-passes-requires-in-Binary64-clause-like g c = subst (λ o. BeginLike c.args.reader.now.left o c.behind-rest.result.left) (sym c.binary-in-Binary64.ensures) (binary64_like (two_of c.in-Some.ensures.next c.behind-rest.ensures c.behind.ensures) c.in-Binary64.ensures)
+pub passes_bytes-requires-in-Binary64-clause-like : goal.passes_bytes-requires-in-Binary64-clause-like
+passes_bytes-requires-in-Binary64-clause-like g c = subst (λ o. BeginAs c.args.reader.now.left o 1) (sym c.binary-in-Binary64.ensures) (of_one c.in-Some.ensures.next (λ two. binary64_like two c.in-Binary64.ensures))
 
 pub passes_constant-requires-clause-like : goal.passes_constant-requires-clause-like
-passes_constant-requires-clause-like g c = constant_like (two_of c.in-Some.ensures.next c.behind-rest.ensures c.behind.ensures) c.in-Constant32.ensures
+passes_constant-requires-clause-like g c = λ short. of_both c.in-Some.ensures.next (λ two. constant_like two c.in-Constant32.ensures short)
 
 pub passes_with-requires-clause-like : goal.passes_with-requires-clause-like
-passes_with-requires-clause-like g c = br_like (two_of c.in-Some.ensures.next c.behind-rest.ensures c.behind.ensures) c.in-Br.ensures c.from-index.ensures
+passes_with-requires-clause-like g c = λ short. of_both c.in-Some.ensures.next (λ two. br_like two c.in-Br.ensures c.from-index.ensures short)
 
 pub passes_with-requires-in-BrIf-clause-like : goal.passes_with-requires-in-BrIf-clause-like
-passes_with-requires-in-BrIf-clause-like g c = br_if_like (two_of c.in-Some.ensures.next c.behind-rest.ensures c.behind.ensures) c.in-BrIf.ensures c.from-index.ensures
+passes_with-requires-in-BrIf-clause-like g c = λ short. of_both c.in-Some.ensures.next (λ two. br_if_like two c.in-BrIf.ensures c.from-index.ensures short)
 
 pub passes_with-requires-in-Call-clause-like : goal.passes_with-requires-in-Call-clause-like
-passes_with-requires-in-Call-clause-like g c = call_like (two_of c.in-Some.ensures.next c.behind-rest.ensures c.behind.ensures) c.in-Call.ensures c.from-index.ensures
+passes_with-requires-in-Call-clause-like g c = λ short. of_both c.in-Some.ensures.next (λ two. call_like two c.in-Call.ensures c.from-index.ensures short)
 
 pub passes_with-requires-in-LocalGet-clause-like : goal.passes_with-requires-in-LocalGet-clause-like
-passes_with-requires-in-LocalGet-clause-like g c = local_get_like (two_of c.in-Some.ensures.next c.behind-rest.ensures c.behind.ensures) c.in-LocalGet.ensures c.from-index.ensures
+passes_with-requires-in-LocalGet-clause-like g c = λ short. of_both c.in-Some.ensures.next (λ two. local_get_like two c.in-LocalGet.ensures c.from-index.ensures short)
 
 pub passes_with-requires-in-LocalSet-clause-like : goal.passes_with-requires-in-LocalSet-clause-like
-passes_with-requires-in-LocalSet-clause-like g c = local_set_like (two_of c.in-Some.ensures.next c.behind-rest.ensures c.behind.ensures) c.in-LocalSet.ensures c.from-index.ensures
+passes_with-requires-in-LocalSet-clause-like g c = λ short. of_both c.in-Some.ensures.next (λ two. local_set_like two c.in-LocalSet.ensures c.from-index.ensures short)
 
 pub passes_with-requires-in-LocalTee-clause-like : goal.passes_with-requires-in-LocalTee-clause-like
-passes_with-requires-in-LocalTee-clause-like g c = local_tee_like (two_of c.in-Some.ensures.next c.behind-rest.ensures c.behind.ensures) c.in-LocalTee.ensures c.from-index.ensures
+passes_with-requires-in-LocalTee-clause-like g c = λ short. of_both c.in-Some.ensures.next (λ two. local_tee_like two c.in-LocalTee.ensures c.from-index.ensures short)
 
 pub passes_with-requires-in-GlobalGet-clause-like : goal.passes_with-requires-in-GlobalGet-clause-like
-passes_with-requires-in-GlobalGet-clause-like g c = global_get_like (two_of c.in-Some.ensures.next c.behind-rest.ensures c.behind.ensures) c.in-GlobalGet.ensures c.from-index.ensures
+passes_with-requires-in-GlobalGet-clause-like g c = λ short. of_both c.in-Some.ensures.next (λ two. global_get_like two c.in-GlobalGet.ensures c.from-index.ensures short)
 
 pub passes_with-requires-in-GlobalSet-clause-like : goal.passes_with-requires-in-GlobalSet-clause-like
-passes_with-requires-in-GlobalSet-clause-like g c = global_set_like (two_of c.in-Some.ensures.next c.behind-rest.ensures c.behind.ensures) c.in-GlobalSet.ensures c.from-index.ensures
+passes_with-requires-in-GlobalSet-clause-like g c = λ short. of_both c.in-Some.ensures.next (λ two. global_set_like two c.in-GlobalSet.ensures c.from-index.ensures short)
 
 pub passes_with-requires-in-Block-clause-like : goal.passes_with-requires-in-Block-clause-like
-passes_with-requires-in-Block-clause-like g c = block_like (two_of c.in-Some.ensures.next c.behind-rest.ensures c.behind-2.ensures) c.in-Block.ensures
+passes_with-requires-in-Block-clause-like g c = λ empty. of_both c.in-Some.ensures.next (λ two. block_like two c.in-Block.ensures empty)
 
 pub passes_with-requires-in-Loop-clause-like : goal.passes_with-requires-in-Loop-clause-like
-passes_with-requires-in-Loop-clause-like g c = loop_like (two_of c.in-Some.ensures.next c.behind-rest.ensures c.behind-2.ensures) c.in-Loop.ensures
+passes_with-requires-in-Loop-clause-like g c = λ empty. of_both c.in-Some.ensures.next (λ two. loop_like two c.in-Loop.ensures empty)
 
 pub passes_with-requires-in-If-clause-like : goal.passes_with-requires-in-If-clause-like
-passes_with-requires-in-If-clause-like g c = if_like (two_of c.in-Some.ensures.next c.behind-rest.ensures c.behind-2.ensures) c.in-If.ensures
+passes_with-requires-in-If-clause-like g c = λ empty. of_both c.in-Some.ensures.next (λ two. if_like two c.in-If.ensures empty)
+
+pub passes_load-requires-clause-like : goal.passes_load-requires-clause-like
+passes_load-requires-clause-like g c = load32_like c.in-Some.ensures.next c.in-Load32.ensures
+
+pub passes_load-requires-in-Load64-clause-like : goal.passes_load-requires-in-Load64-clause-like
+passes_load-requires-in-Load64-clause-like g c = load64_like c.in-Some.ensures.next c.in-Load64.ensures
+
+pub passes_load-requires-in-LoadF32-clause-like : goal.passes_load-requires-in-LoadF32-clause-like
+passes_load-requires-in-LoadF32-clause-like g c = load_f32_like c.in-Some.ensures.next c.in-LoadF32.ensures
+
+pub passes_load-requires-in-LoadF64-clause-like : goal.passes_load-requires-in-LoadF64-clause-like
+passes_load-requires-in-LoadF64-clause-like g c = load_f64_like c.in-Some.ensures.next c.in-LoadF64.ensures
+
+pub passes_store-requires-clause-like : goal.passes_store-requires-clause-like
+passes_store-requires-clause-like g c = store32_like c.in-Some.ensures.next c.in-Store32.ensures
+
+pub passes_store-requires-in-Store64-clause-like : goal.passes_store-requires-in-Store64-clause-like
+passes_store-requires-in-Store64-clause-like g c = store64_like c.in-Some.ensures.next c.in-Store64.ensures
+
+pub passes_store-requires-in-StoreF32-clause-like : goal.passes_store-requires-in-StoreF32-clause-like
+passes_store-requires-in-StoreF32-clause-like g c = store_f32_like c.in-Some.ensures.next c.in-StoreF32.ensures
+
+pub passes_store-requires-in-StoreF64-clause-like : goal.passes_store-requires-in-StoreF64-clause-like
+passes_store-requires-in-StoreF64-clause-like g c = store_f64_like c.in-Some.ensures.next c.in-StoreF64.ensures

@@ -50,6 +50,7 @@ returns-in_err-read_operator_into-clause-fault g c =
     rw (p.1, p.2) (at_fault (g.R.WasmModuleResources.context c.args.body.now.context.now.resources.now) c.args.body.now.context.now.types (may_stand (Some c.args.place)) (state c.args.v.now) c.args.reader.now.left c.loop.reader.left c.args.body.now.end (state c.loop.v) _
     c.loop.invariant.so_far.behind (
       c.loop.invariant.so_far.is_open,
+      (λ ended. search rules),
       unreadable c.args.body.now.context.now.types _ c.loop.reader.left c.in_err-read_operator_into.ensures.refused c.in_err-read_operator_into.ensures.vector,
     ))
 

@@ -21,6 +21,7 @@ returns-then-is_at_end-clause-fault g c = λ is.
 pub returns-in-Err-clause-fault : goal.returns-in-Err-clause-fault
 returns-in-Err-clause-fault g c = λ is. (
   c.requires.open_frame,
+  (λ ended. search rules),
   unreadable c.args.body.now.context.now.types c.in-Err.error.cause c.args.reader.now.left c.in-Err.ensures.refused c.in-Err.ensures.vector,
 )
 

@@ -1,5 +1,6 @@
 pub mod State
 pub mod Attempts
+pub mod Control
 pub mod Flat
 pub mod StacksInside
 pub mod Steps

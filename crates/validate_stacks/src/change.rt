@@ -7,6 +7,7 @@ ghost use Rattle.validate_transaction.specs.declared.log.Transaction.{Transactio
 ghost use Rattle.validate_transaction.specs.Recorded.{log_of};
 ghost use Rattle.validate_stacks.specs.Changes.{MayChange, body_changed, pushed_count, operands_given, operands_topped, frames_closed, order_closed, order_set, HasRoomToSet, frames_opened, log_changed, log_closed, log_with_closed};
 
+use crate::control::ControlStack;
 use crate::stacks::{Stacks, live_frame};
 use validate_locals::LocalInits;
 use validate_transaction::{Closed, Entry, Pile, Transaction};
@@ -67,7 +68,7 @@ fn make_room_to_set<A: Refused>(inits: &mut LocalInits, sets: Option<u32>) -> Re
 #[inline(always)]
 fn make_room<A: Refused>(
     operands: &mut Pile<MaybeType>,
-    control: &mut Pile<Frame>,
+    control: &mut ControlStack,
     inits: &mut LocalInits,
     change: Change<'_>,
 ) -> Result<usize, A>
@@ -110,7 +111,7 @@ fn make_room<A: Refused>(
 fn record<A: Refused>(
     transaction: &mut Transaction,
     operands: &Pile<MaybeType>,
-    control: &Pile<Frame>,
+    control: &ControlStack,
     inits: &LocalInits,
     change: Change<'_>,
     pushed: usize,
@@ -134,7 +135,7 @@ fn record<A: Refused>(
 
 /// The innermost frame and what it unsets, where it is to be closed.
 #[inline(always)]
-fn closed<'a>(control: &'a Pile<Frame>, inits: &'a LocalInits, closes: bool) -> Option<Closed<'a>>
+fn closed<'a>(control: &'a ControlStack, inits: &'a LocalInits, closes: bool) -> Option<Closed<'a>>
     requires { ForSome (slice_get control.now.items 0) (λ f. f.init_height ≤ length inits.now.order) }
     ensures { (t : Transaction) → log_with_closed result t ≡ log_closed closes control.now.items inits.now.order t }
 {
@@ -150,7 +151,7 @@ fn closed<'a>(control: &'a Pile<Frame>, inits: &'a LocalInits, closes: bool) -> 
 
 /// Closes the innermost frame, if asked for: the locals that were first set in it aren't set any more. It takes no memory.
 #[inline(always)]
-fn close(control: &mut Pile<Frame>, inits: &mut LocalInits, closes: bool)
+fn close(control: &mut ControlStack, inits: &mut LocalInits, closes: bool)
     ensures frames { control.new.items ≡ frames_closed closes control.old.items }
     ensures frames_room { control.new.room ≡ control.old.room }
     ensures order { inits.new.order ≡ order_closed closes control.old.items inits.old.order }
@@ -189,7 +190,7 @@ fn set(inits: &mut LocalInits, sets: Option<u32>) -> usize
 /// Opens a frame over so many operands and locals that are set, if asked for, where there is room. It takes no memory.
 #[inline(always)]
 fn open(
-    control: &mut Pile<Frame>,
+    control: &mut ControlStack,
     opens: Option<(FrameKind, BlockType)>,
     height: usize,
     init_height: usize,

@@ -7,6 +7,7 @@ mod at_once;
 pub mod blocks;
 mod body;
 mod change;
+mod control;
 mod counted;
 mod either;
 mod exchanges;

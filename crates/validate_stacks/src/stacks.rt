@@ -12,6 +12,7 @@ ghost use Rattle.validate_stacks.specs.Flat.{frames_unmarked, inits_in_frames};
 ghost use Rattle.validate_stacks.specs.Steps.{empty_body, innermost_operands, known_type, type_at_depth, frame_at, label_at, found_after_pops_in_body, body_marked, body_pushed, body_popped, body_with_frame, body_without_frame, setting_order, body_with_locals, body_with_params};
 
 use crate::allocations::OperatorValidatorAllocations;
+use crate::control::ControlStack;
 use std::alloc::Global;
 use std::marker::Model;
 use validate_locals::{LocalInits, Locals};
@@ -24,7 +25,7 @@ use validate_visit::{BlockType, Frame, FrameKind};
 #[derive(Drop)]
 pub struct Stacks {
     pub(crate) operands: Pile<MaybeType>,
-    pub(crate) control: Pile<Frame>,
+    pub(crate) control: ControlStack,
     pub(crate) locals: Locals,
     pub(crate) inits: LocalInits,
     pub(crate) transaction: Transaction,
@@ -490,10 +491,7 @@ impl Stacks {
             return true;
         }
         let all = self.operands.len();
-        match self.control.get(0) {
-            Some(frame) => count <= all && frame.height <= all - count,
-            None => false,
-        }
+        count <= all && self.control.innermost_height() <= all - count
     }
 
     /// How many own operands the innermost frame has.
@@ -635,7 +633,7 @@ pub(crate) fn live_frame(
 }
 
 /// Takes the mark of the innermost frame away, where it was made.
-fn unmark(control: &mut Pile<Frame>, marked: bool)
+fn unmark(control: &mut ControlStack, marked: bool)
     ensures items { control.new.items ≡ frames_unmarked marked control.old.items }
     ensures room { control.new.room ≡ control.old.room }
 {
@@ -650,7 +648,7 @@ fn unmark(control: &mut Pile<Frame>, marked: bool)
 
 /// Takes back the frames that the trace recorded, and the initialisations of each that goes.
 fn take_back_frames(
-    control: &mut Pile<Frame>,
+    control: &mut ControlStack,
     inits: &mut LocalInits,
     trace: &mut Pile<Option<Frame>>,
 )

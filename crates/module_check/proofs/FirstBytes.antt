@@ -14,6 +14,7 @@ use Rattle.binary_operators.specs.Values.{◌>>=◌}
 use Rattle.binary_operators.specs.declared.forms.Form.{Form}
 use Rattle.binary_operators.specs.declared.forms.Form.TheVariants.{Numeric as OfNumeric, Access as OfAccess}
 use Rattle.binary_operators.specs.declared.types.CanonicalTypes.{CanonicalTypes}
+use Rattle.validate_visit.specs.Order.{is_part_closer, nesting}
 use Rattle.validate_visit.specs.declared.memory.MemArg.{MemArg}
 use Rattle.validate_visit.specs.declared.numbers.NumberType.{NumberType}
 use Rattle.validate_visit.specs.declared.numbers.NumberType.TheVariants.{I32, I64, F32, F64}
@@ -385,15 +386,18 @@ two_of {bytes} {code} {next} e =
     record { begins = e ∙ ap (λ bs. code ∷ bs) (sym more); goes_on = more }
 
 -- an operator of one byte, and one of both
-pub of_one : {bytes : List ℕ} {code next : ℕ} {op : Op} → bytes ≡ code ∷ next ∷ drop 2 bytes → (AreTwo bytes code next (drop 1 bytes) (drop 2 bytes) → BeginLike bytes op (drop 1 bytes)) → BeginAs bytes op 1
-of_one {bytes} {code} {next} {op} e like =
+pub has_one : {bytes : List ℕ} {code next : ℕ} → bytes ≡ code ∷ next ∷ drop 2 bytes → 1 ≤ length bytes
+has_one {bytes} e =
     let two : length bytes ≡ suc (suc (length (drop 2 bytes))) = ap (λ bs. length bs) e in
-    record { are_there = omega (arith, two); like = like (two_of e) }
+    omega (arith, two)
 
-pub of_both : {bytes : List ℕ} {code next : ℕ} {op : Op} → bytes ≡ code ∷ next ∷ drop 2 bytes → (AreTwo bytes code next (drop 1 bytes) (drop 2 bytes) → BeginLike bytes op (drop 2 bytes)) → BeginAs bytes op 2
-of_both {bytes} {code} {next} {op} e like =
+pub of_one : {bytes : List ℕ} {code next : ℕ} {op : Op} → is_part_closer (nesting op) ≡ false → bytes ≡ code ∷ next ∷ drop 2 bytes → (AreTwo bytes code next (drop 1 bytes) (drop 2 bytes) → BeginLike bytes op (drop 1 bytes)) → BeginAs bytes op 1
+of_one {bytes} {code} {next} {op} none e like = record { are_there = has_one e; closes_none = none; like = like (two_of e) }
+
+pub of_both : {bytes : List ℕ} {code next : ℕ} {op : Op} → is_part_closer (nesting op) ≡ false → bytes ≡ code ∷ next ∷ drop 2 bytes → (AreTwo bytes code next (drop 1 bytes) (drop 2 bytes) → BeginLike bytes op (drop 2 bytes)) → BeginAs bytes op 2
+of_both {bytes} {code} {next} {op} none e like =
     let two : length bytes ≡ suc (suc (length (drop 2 bytes))) = ap (λ bs. length bs) e in
-    record { are_there = omega (arith, two); like = like (two_of e) }
+    record { are_there = omega (arith, two); closes_none = none; like = like (two_of e) }
 
 pub end_begins : {r t : Unread} {code : ℕ} {rest : List ℕ} → r ≡ t → r.left ≡ code ∷ rest → code ≡ 0x0b → BeginLike t.left (Control EndOp) rest
 unfolding operator forms plain_ops

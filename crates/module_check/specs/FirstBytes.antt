@@ -1,8 +1,9 @@
 -- What the operators are that most code is made of, by their first byte (the crate's own).
-use Rattle.std.specs.Prelude.{◌≡◌, ℕ, ◌-◌, List, [], ◌∷◌, ◌++◌, ◌<◌, ◌≤◌, Some, drop, length, replicate}
+use Rattle.std.specs.Prelude.{◌≡◌, ℕ, false, ◌-◌, List, [], ◌∷◌, ◌++◌, ◌<◌, ◌≤◌, Some, drop, length, replicate}
 use Rattle.binary_operators.specs.Instructions.{operator}
 use Rattle.binary_operators.specs.Unplaced.{unplaced}
 use Rattle.binary_operators.specs.declared.types.CanonicalTypes.{CanonicalTypes}
+use Rattle.validate_visit.specs.Order.{is_part_closer, nesting}
 use Rattle.validate_visit.specs.declared.memory.MemArg.{MemArg}
 use Rattle.validate_visit.specs.declared.memory.MemArgTarget.TheVariants.{Memory as InMemory}
 use Rattle.validate_visit.specs.declared.op.MemoryOp.{MemoryOp}
@@ -43,9 +44,10 @@ pub record BeginLike (bytes : List ℕ) (op : Op) (behind : List ℕ) : Type 0 w
   pub is_read : (types : CanonicalTypes) → operator types bytes ≡ Some (unplaced actual, behind)
   pub same_row : (cx : Context) → row_of cx actual ≡ row_of cx op
 
--- The bytes begin with an operator that is so many bytes, and its row is that of this one.
+-- The bytes begin with an operator that is so many bytes, and its row is that of this one, which closes no frame.
 pub record BeginAs (bytes : List ℕ) (op : Op) (count : ℕ) : Type 0 where
   pub are_there : count ≤ length bytes
+  pub closes_none : is_part_closer (nesting op) ≡ false
   pub like : BeginLike bytes op (drop count bytes)
 
 -- a place in the first memory, with the natural alignment of the operator

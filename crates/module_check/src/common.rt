@@ -1,15 +1,17 @@
 //! The operators that most code is made of. Their first byte tells them, and each is checked as it is read.
 
-ghost use Rattle.std.specs.Prelude.{◌≡◌, true, pos, get_or, drop, IfSome};
+ghost use Rattle.std.specs.Prelude.{◌≡◌, ◌≢◌, true, false, [], pos, get_or, IfSome};
 ghost use Rattle.module_check.specs.declared.common.Common.TheVariants.{Rare};
+ghost use Rattle.validate_visit.specs.Order.{is_part_closer, nesting};
+ghost use Rattle.validate_visit.specs.declared.op.ControlOp.{ControlOp};
 ghost use Rattle.validate_visit.specs.declared.numeric.IntegerBinaryOp.{IntegerBinaryOp};
 ghost use Rattle.validate_visit.specs.declared.numeric.IntegerComparisonOp.{IntegerComparisonOp};
 ghost use Rattle.validate_visit.specs.declared.op.NumericOp.{NumericOp};
 ghost use Rattle.validate_visit.specs.declared.op.MemoryOp.{MemoryOp};
 ghost use Rattle.validate_visit.specs.declared.op.Op.{Op};
-ghost use Rattle.validate_operators.specs.Validator.{stacks_of};
+ghost use Rattle.validate_operators.specs.Validator.{state, stacks_of};
 ghost use Rattle.validate_stacks.specs.Visits.{MayVisit};
-ghost use Rattle.module_check.specs.Turns.{Passes};
+ghost use Rattle.module_check.specs.Turns.{Passes, Turns};
 ghost use Rattle.module_check.specs.FirstBytes.{kinds, BeginAs, BeginLike, BeginAccess, IsNear};
 
 use crate::common::Common::{
@@ -378,7 +380,7 @@ fn common_of(code: u8) -> Common
 }
 
 /// Whether the operator that the bytes begin with passes at once: its row is that of the one that is handed in. Then
-/// it is read; otherwise nothing is changed.
+/// it is read; otherwise nothing is changed. One that closes no frame leaves one open.
 #[inline(always)]
 pub(crate) fn passes<'a, R: WasmModuleResources>(
     v: &mut OperatorValidator,
@@ -389,7 +391,8 @@ pub(crate) fn passes<'a, R: WasmModuleResources>(
 ) -> bool
     requires visit { MayVisit (R.context resources.now) (stacks_of v.old) }
     requires like { BeginLike reader.old.left op rest.left }
-    ensures { Passes (R.context resources.now) result reader.old reader.new (stacks_of v.old) (stacks_of v.new) }
+    ensures passed { Passes (R.context resources.now) result reader.old reader.new (stacks_of v.old) (stacks_of v.new) }
+    ensures open { result ≡ true → is_part_closer (nesting op.entry) ≡ false → (state v.new).present.frames ≢ [] }
 {
     if v.passes_at_once(resources, &op) {
         *reader = rest;
@@ -409,7 +412,8 @@ pub(crate) fn passes_memory<'a, R: WasmModuleResources>(
 ) -> bool
     requires visit { MayVisit (R.context resources.now) (stacks_of v.old) }
     requires like { BeginLike reader.old.left (Op.Memory op) rest.left }
-    ensures { Passes (R.context resources.now) result reader.old reader.new (stacks_of v.old) (stacks_of v.new) }
+    ensures passed { Passes (R.context resources.now) result reader.old reader.new (stacks_of v.old) (stacks_of v.new) }
+    ensures open { result ≡ true → (state v.new).present.frames ≢ [] }
 {
     if v.memory_passes_at_once(resources, &op) {
         *reader = rest;
@@ -418,54 +422,112 @@ pub(crate) fn passes_memory<'a, R: WasmModuleResources>(
     false
 }
 
-/// [`passes`] of an operator that is so many bytes.
+/// What came of the next operator of a body.
+#[derive(Clone, Copy)]
+pub(crate) enum Turn {
+    /// It was read and accepted, and a frame is open behind it.
+    Open,
+    /// It was read and accepted, and closed the body.
+    Closed,
+    /// It didn't pass, and nothing is changed.
+    NotPassed,
+}
+
+/// The turn of the operator that the bytes begin with, by [`passes`]: it closes no frame.
 #[inline(always)]
-fn passes_bytes<R: WasmModuleResources>(
+fn open_turn<'a, R: WasmModuleResources>(
+    v: &mut OperatorValidator,
+    resources: &R,
+    reader: &mut BinaryReader<'a>,
+    rest: BinaryReader<'a>,
+    op: Op<'_>,
+) -> Turn
+    requires visit { MayVisit (R.context resources.now) (stacks_of v.old) }
+    requires like { BeginLike reader.old.left op rest.left }
+    requires closes_none { is_part_closer (nesting op) ≡ false }
+    ensures { Turns (R.context resources.now) result reader.old reader.new (stacks_of v.old) (stacks_of v.new) }
+{
+    if passes(v, resources, reader, rest, op) {
+        Turn::Open
+    } else {
+        Turn::NotPassed
+    }
+}
+
+/// [`open_turn`] of an operator on memories.
+#[inline(always)]
+fn memory_turn<'a, R: WasmModuleResources>(
+    v: &mut OperatorValidator,
+    resources: &R,
+    reader: &mut BinaryReader<'a>,
+    rest: BinaryReader<'a>,
+    op: MemoryOp,
+) -> Turn
+    requires visit { MayVisit (R.context resources.now) (stacks_of v.old) }
+    requires like { BeginLike reader.old.left (Op.Memory op) rest.left }
+    ensures { Turns (R.context resources.now) result reader.old reader.new (stacks_of v.old) (stacks_of v.new) }
+{
+    if passes_memory(v, resources, reader, rest, op) {
+        Turn::Open
+    } else {
+        Turn::NotPassed
+    }
+}
+
+/// [`open_turn`] of an operator that is so many bytes.
+#[inline(always)]
+fn turn_of_bytes<R: WasmModuleResources>(
     v: &mut OperatorValidator,
     resources: &R,
     reader: &mut BinaryReader<'_>,
     count: usize,
     op: Op<'_>,
-) -> bool
+) -> Turn
     requires visit { MayVisit (R.context resources.now) (stacks_of v.old) }
     requires like { BeginAs reader.old.left op count }
-    ensures { Passes (R.context resources.now) result reader.old reader.new (stacks_of v.old) (stacks_of v.new) }
+    ensures { Turns (R.context resources.now) result reader.old reader.new (stacks_of v.old) (stacks_of v.new) }
 {
     let rest = reader.behind(count);
-    passes(v, resources, reader, rest, op)
+    open_turn(v, resources, reader, rest, op)
 }
 
-/// [`passes_bytes`] of an operator on control or variables that is two bytes, if the second is fit.
+/// [`turn_of_bytes`] of an operator on control or variables that is two bytes, if the second is fit.
 #[inline(always)]
-#[tactic(auto, using(crate::proofs::Turned::unchanged))]
-fn passes_with<R: WasmModuleResources>(
+#[tactic(auto, using(crate::proofs::Turned::not_passed))]
+fn turn_with<R: WasmModuleResources>(
     v: &mut OperatorValidator,
     resources: &R,
     reader: &mut BinaryReader<'_>,
     is_fit: bool,
     op: ControlOp<'_>,
-) -> bool
+) -> Turn
     requires visit { MayVisit (R.context resources.now) (stacks_of v.old) }
     requires like { is_fit ≡ true → BeginAs reader.old.left (Op.Control op) 2 }
-    ensures { Passes (R.context resources.now) result reader.old reader.new (stacks_of v.old) (stacks_of v.new) }
+    ensures { Turns (R.context resources.now) result reader.old reader.new (stacks_of v.old) (stacks_of v.new) }
 {
-    is_fit && passes_bytes(v, resources, reader, 2, Op::Control(op))
+    if !is_fit {
+        return Turn::NotPassed;
+    }
+    turn_of_bytes(v, resources, reader, 2, Op::Control(op))
 }
 
-/// [`passes_bytes`] of an `i32.const` that is two bytes, if the second is fit.
+/// [`turn_of_bytes`] of an `i32.const` that is two bytes, if the second is fit.
 #[inline(always)]
-#[tactic(auto, using(crate::proofs::Turned::unchanged))]
-fn passes_constant<R: WasmModuleResources>(
+#[tactic(auto, using(crate::proofs::Turned::not_passed))]
+fn turn_of_constant<R: WasmModuleResources>(
     v: &mut OperatorValidator,
     resources: &R,
     reader: &mut BinaryReader<'_>,
     is_fit: bool,
-) -> bool
+) -> Turn
     requires visit { MayVisit (R.context resources.now) (stacks_of v.old) }
     requires like { is_fit ≡ true → BeginAs reader.old.left (Op.Numeric (NumericOp.I32Const (pos 0))) 2 }
-    ensures { Passes (R.context resources.now) result reader.old reader.new (stacks_of v.old) (stacks_of v.new) }
+    ensures { Turns (R.context resources.now) result reader.old reader.new (stacks_of v.old) (stacks_of v.new) }
 {
-    is_fit && passes_bytes(v, resources, reader, 2, Op::Numeric(NumericOp::I32Const(0)))
+    if !is_fit {
+        return Turn::NotPassed;
+    }
+    turn_of_bytes(v, resources, reader, 2, Op::Numeric(NumericOp::I32Const(0)))
 }
 
 /// The place in the first memory that is next, if its alignment and its offset are a byte each.
@@ -487,66 +549,90 @@ fn near_place(reader: &BinaryReader<'_>, natural: u8) -> Option<MemArg>
     })
 }
 
-/// [`passes`] of a load of this type, behind whose code a place in the first memory may be.
+/// [`memory_turn`] of a load of this type, behind whose code a place in the first memory may be.
 #[inline(always)]
-#[tactic(auto, using(crate::proofs::Turned::unchanged))]
-fn passes_load<R: WasmModuleResources>(
+#[tactic(auto, using(crate::proofs::Turned::not_passed))]
+fn turn_of_load<R: WasmModuleResources>(
     v: &mut OperatorValidator,
     resources: &R,
     reader: &mut BinaryReader<'_>,
     natural: u8,
     ty: NumberType,
-) -> bool
+) -> Turn
     requires visit { MayVisit (R.context resources.now) (stacks_of v.old) }
     requires like { BeginAccess reader.old.left (λ place. MemoryOp.Load ty place) natural }
-    ensures { Passes (R.context resources.now) result reader.old reader.new (stacks_of v.old) (stacks_of v.new) }
+    ensures { Turns (R.context resources.now) result reader.old reader.new (stacks_of v.old) (stacks_of v.new) }
 {
     let rest = reader.behind(1);
     let Some(place) = near_place(&rest, natural) else {
-        return false;
+        return Turn::NotPassed;
     };
     let loaded = MemoryOp::Load(ty, place);
-    passes_memory(v, resources, reader, rest.behind(2), loaded)
+    memory_turn(v, resources, reader, rest.behind(2), loaded)
 }
 
 /// The same of a store.
 #[inline(always)]
-#[tactic(auto, using(crate::proofs::Turned::unchanged))]
-fn passes_store<R: WasmModuleResources>(
+#[tactic(auto, using(crate::proofs::Turned::not_passed))]
+fn turn_of_store<R: WasmModuleResources>(
     v: &mut OperatorValidator,
     resources: &R,
     reader: &mut BinaryReader<'_>,
     natural: u8,
     ty: NumberType,
-) -> bool
+) -> Turn
     requires visit { MayVisit (R.context resources.now) (stacks_of v.old) }
     requires like { BeginAccess reader.old.left (λ place. MemoryOp.Store ty place) natural }
-    ensures { Passes (R.context resources.now) result reader.old reader.new (stacks_of v.old) (stacks_of v.new) }
+    ensures { Turns (R.context resources.now) result reader.old reader.new (stacks_of v.old) (stacks_of v.new) }
 {
     let rest = reader.behind(1);
     let Some(place) = near_place(&rest, natural) else {
-        return false;
+        return Turn::NotPassed;
     };
     let stored = MemoryOp::Store(ty, place);
-    passes_memory(v, resources, reader, rest.behind(2), stored)
+    memory_turn(v, resources, reader, rest.behind(2), stored)
 }
 
-/// [`passes`] of an `end`, if that is the next operator.
+/// The turn of an `end`, behind which the rest is left.
 #[inline(always)]
-#[tactic(auto, using(crate::proofs::Turned::unchanged))]
-fn passes_end<'a, R: WasmModuleResources>(
+fn turn_of_end<'a, R: WasmModuleResources>(
     v: &mut OperatorValidator,
     resources: &R,
     reader: &mut BinaryReader<'a>,
-) -> bool
+    rest: BinaryReader<'a>,
+) -> Turn
     requires visit { MayVisit (R.context resources.now) (stacks_of v.old) }
-    ensures { Passes (R.context resources.now) result reader.old reader.new (stacks_of v.old) (stacks_of v.new) }
+    requires like { BeginLike reader.old.left (Op.Control ControlOp.End) rest.left }
+    ensures { Turns (R.context resources.now) result reader.old reader.new (stacks_of v.old) (stacks_of v.new) }
+{
+    if !passes(v, resources, reader, rest, Op::Control(ControlOp::End)) {
+        return Turn::NotPassed;
+    }
+    if v.control_stack_height() == 0 {
+        return Turn::Closed;
+    }
+    Turn::Open
+}
+
+/// [`turn_of_end`], if that is the next operator.
+#[inline(always)]
+#[tactic(auto, using(crate::proofs::Turned::not_passed))]
+fn turn_of_last<'a, R: WasmModuleResources>(
+    v: &mut OperatorValidator,
+    resources: &R,
+    reader: &mut BinaryReader<'a>,
+) -> Turn
+    requires visit { MayVisit (R.context resources.now) (stacks_of v.old) }
+    ensures { Turns (R.context resources.now) result reader.old reader.new (stacks_of v.old) (stacks_of v.new) }
 {
     let mut rest = reader.duplicate();
     let Ok(code) = rest.read_u8() else {
-        return false;
+        return Turn::NotPassed;
     };
-    code == 0x0b && passes(v, resources, reader, rest, Op::Control(ControlOp::End))
+    if code != 0x0b {
+        return Turn::NotPassed;
+    }
+    turn_of_end(v, resources, reader, rest)
 }
 
 /// The operator that asks whether an integer of this type is zero.
@@ -573,52 +659,55 @@ fn comparison(ty: IntegerType) -> Op<'static>
     Op::Numeric(NumericOp::IntegerComparison(ty, IntegerComparisonOp::Eq))
 }
 
-/// Whether the next operator is a common one that passes at once. Then it is read; otherwise nothing is changed.
+/// The turn of the next operator, if it is a common one.
 #[inline(always)]
-#[tactic(auto, using(crate::proofs::Turned::unchanged))]
-pub(crate) fn passes_common<R: WasmModuleResources>(
+#[tactic(auto, using(crate::proofs::Turned::not_passed))]
+pub(crate) fn common_turn<R: WasmModuleResources>(
     v: &mut OperatorValidator,
     resources: &R,
     reader: &mut BinaryReader<'_>,
-) -> bool
+) -> Turn
     requires visit { MayVisit (R.context resources.now) (stacks_of v.old) }
-    ensures { Passes (R.context resources.now) result reader.old reader.new (stacks_of v.old) (stacks_of v.new) }
+    ensures { Turns (R.context resources.now) result reader.old reader.new (stacks_of v.old) (stacks_of v.new) }
 {
     let Some((code, next)) = reader.next_two() else {
-        return passes_end(v, resources, reader);
+        return turn_of_last(v, resources, reader);
     };
     let (is_index, is_empty, index) = (next < 0x80, next == 0x40, u32::from(next));
     match common_of(code) {
-        Rare => false,
-        Nop => passes_bytes(v, resources, reader, 1, Op::Control(ControlOp::Nop)),
-        End => passes_bytes(v, resources, reader, 1, Op::Control(ControlOp::End)),
-        Return => passes_bytes(v, resources, reader, 1, Op::Control(ControlOp::Return)),
-        Drop => passes_bytes(v, resources, reader, 1, Op::Control(ControlOp::Drop)),
-        Select => passes_bytes(v, resources, reader, 1, Op::Control(ControlOp::Select)),
-        Test32 => passes_bytes(v, resources, reader, 1, zero_test(IntegerType::I32)),
-        Compare32 => passes_bytes(v, resources, reader, 1, comparison(IntegerType::I32)),
-        Compare64 => passes_bytes(v, resources, reader, 1, comparison(IntegerType::I64)),
-        Binary32 => passes_bytes(v, resources, reader, 1, binary(IntegerType::I32)),
-        Binary64 => passes_bytes(v, resources, reader, 1, binary(IntegerType::I64)),
-        Constant32 => passes_constant(v, resources, reader, is_index),
-        Br => passes_with(v, resources, reader, is_index, ControlOp::Br(index)),
-        BrIf => passes_with(v, resources, reader, is_index, ControlOp::BrIf(index)),
-        Call => passes_with(v, resources, reader, is_index, ControlOp::Call(index)),
-        LocalGet => passes_with(v, resources, reader, is_index, ControlOp::LocalGet(index)),
-        LocalSet => passes_with(v, resources, reader, is_index, ControlOp::LocalSet(index)),
-        LocalTee => passes_with(v, resources, reader, is_index, ControlOp::LocalTee(index)),
-        GlobalGet => passes_with(v, resources, reader, is_index, ControlOp::GlobalGet(index)),
-        GlobalSet => passes_with(v, resources, reader, is_index, ControlOp::GlobalSet(index)),
-        Block => passes_with(v, resources, reader, is_empty, ControlOp::Block(Empty)),
-        Loop => passes_with(v, resources, reader, is_empty, ControlOp::Loop(Empty)),
-        If => passes_with(v, resources, reader, is_empty, ControlOp::If(Empty)),
-        Load32(natural) => passes_load(v, resources, reader, natural, NumberType::I32),
-        Load64(natural) => passes_load(v, resources, reader, natural, NumberType::I64),
-        LoadF32(natural) => passes_load(v, resources, reader, natural, NumberType::F32),
-        LoadF64(natural) => passes_load(v, resources, reader, natural, NumberType::F64),
-        Store32(natural) => passes_store(v, resources, reader, natural, NumberType::I32),
-        Store64(natural) => passes_store(v, resources, reader, natural, NumberType::I64),
-        StoreF32(natural) => passes_store(v, resources, reader, natural, NumberType::F32),
-        StoreF64(natural) => passes_store(v, resources, reader, natural, NumberType::F64),
+        Rare => Turn::NotPassed,
+        Nop => turn_of_bytes(v, resources, reader, 1, Op::Control(ControlOp::Nop)),
+        End => {
+            let rest = reader.behind(1);
+            turn_of_end(v, resources, reader, rest)
+        }
+        Return => turn_of_bytes(v, resources, reader, 1, Op::Control(ControlOp::Return)),
+        Drop => turn_of_bytes(v, resources, reader, 1, Op::Control(ControlOp::Drop)),
+        Select => turn_of_bytes(v, resources, reader, 1, Op::Control(ControlOp::Select)),
+        Test32 => turn_of_bytes(v, resources, reader, 1, zero_test(IntegerType::I32)),
+        Compare32 => turn_of_bytes(v, resources, reader, 1, comparison(IntegerType::I32)),
+        Compare64 => turn_of_bytes(v, resources, reader, 1, comparison(IntegerType::I64)),
+        Binary32 => turn_of_bytes(v, resources, reader, 1, binary(IntegerType::I32)),
+        Binary64 => turn_of_bytes(v, resources, reader, 1, binary(IntegerType::I64)),
+        Constant32 => turn_of_constant(v, resources, reader, is_index),
+        Br => turn_with(v, resources, reader, is_index, ControlOp::Br(index)),
+        BrIf => turn_with(v, resources, reader, is_index, ControlOp::BrIf(index)),
+        Call => turn_with(v, resources, reader, is_index, ControlOp::Call(index)),
+        LocalGet => turn_with(v, resources, reader, is_index, ControlOp::LocalGet(index)),
+        LocalSet => turn_with(v, resources, reader, is_index, ControlOp::LocalSet(index)),
+        LocalTee => turn_with(v, resources, reader, is_index, ControlOp::LocalTee(index)),
+        GlobalGet => turn_with(v, resources, reader, is_index, ControlOp::GlobalGet(index)),
+        GlobalSet => turn_with(v, resources, reader, is_index, ControlOp::GlobalSet(index)),
+        Block => turn_with(v, resources, reader, is_empty, ControlOp::Block(Empty)),
+        Loop => turn_with(v, resources, reader, is_empty, ControlOp::Loop(Empty)),
+        If => turn_with(v, resources, reader, is_empty, ControlOp::If(Empty)),
+        Load32(natural) => turn_of_load(v, resources, reader, natural, NumberType::I32),
+        Load64(natural) => turn_of_load(v, resources, reader, natural, NumberType::I64),
+        LoadF32(natural) => turn_of_load(v, resources, reader, natural, NumberType::F32),
+        LoadF64(natural) => turn_of_load(v, resources, reader, natural, NumberType::F64),
+        Store32(natural) => turn_of_store(v, resources, reader, natural, NumberType::I32),
+        Store64(natural) => turn_of_store(v, resources, reader, natural, NumberType::I64),
+        StoreF32(natural) => turn_of_store(v, resources, reader, natural, NumberType::F32),
+        StoreF64(natural) => turn_of_store(v, resources, reader, natural, NumberType::F64),
     }
 }

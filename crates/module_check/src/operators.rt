@@ -16,7 +16,7 @@ ghost use Rattle.module_check.specs.Safe.{AreSafeOperators};
 ghost use Rattle.module_check.specs.Turns.{IsTurn};
 
 use crate::body::BodyContext;
-use crate::common::passes_common;
+use crate::common::{Turn, common_turn};
 use crate::expression::check_constant_operators;
 use crate::told::passes_told;
 use crate::verdict::CheckError;
@@ -139,6 +139,7 @@ fn is_any_accepted<R: WasmModuleResources>(
     requires { MayVisit (R.context body.now.context.now.resources.now) (stacks_of v.old) }
     ensures turn { result ≡ true → IsTurn (R.context body.now.context.now.resources.now) body.now.context.now.types
         reader.old.left reader.new.left (state v.old) (state v.new) }
+    ensures untold { result ≡ true → refusal.new ≡ refusal.old }
     ensures told { result ≡ false → IsSome refusal.new }
     ensures fault { result ≡ false → IfSome refusal.new (IsFault
         (body_context (R.context body.now.context.now.resources.now) (state v.old)) body.now.context.now.types
@@ -169,6 +170,7 @@ fn is_read_accepted<R: WasmModuleResources>(
     requires { MayVisit (R.context body.now.context.now.resources.now) (stacks_of v.old) }
     ensures turn { result ≡ true → IsTurn (R.context body.now.context.now.resources.now) body.now.context.now.types
         reader.old.left reader.new.left (state v.old) (state v.new) }
+    ensures untold { result ≡ true → refusal.new ≡ refusal.old }
     ensures told { result ≡ false → IsSome refusal.new }
     ensures fault { result ≡ false → IfSome refusal.new (IsFault
         (body_context (R.context body.now.context.now.resources.now) (state v.old)) body.now.context.now.types
@@ -191,6 +193,7 @@ fn is_lent_accepted<R: WasmModuleResources>(
     requires { MayVisit (R.context body.now.context.now.resources.now) (stacks_of v.old) }
     ensures turn { result ≡ true → IsTurn (R.context body.now.context.now.resources.now) body.now.context.now.types
         reader.old.left reader.new.left (state v.old) (state v.new) }
+    ensures untold { result ≡ true → refusal.new ≡ refusal.old }
     ensures told { result ≡ false → IsSome refusal.new }
     ensures fault { result ≡ false → IfSome refusal.new (IsFault
         (body_context (R.context body.now.context.now.resources.now) (state v.old)) body.now.context.now.types
@@ -202,10 +205,11 @@ fn is_lent_accepted<R: WasmModuleResources>(
     is_accepted
 }
 
-/// [`is_lent_accepted`], which tries first whether it is one of those that most code is made of. The lookup is handed in, so
-/// that it isn't looked up for each.
+/// Reads the next operator, and answers whether it is accepted and a frame is open behind it. Where it isn't accepted, the
+/// place that is lent holds why. One of those that most code is made of is tried first. The lookup is handed in, so that it
+/// isn't looked up for each.
 #[inline(always)]
-fn is_next_accepted<R: WasmModuleResources>(
+fn is_open_behind<R: WasmModuleResources>(
     v: &mut OperatorValidator,
     resources: &R,
     body: &OpenBody<'_, '_, R>,
@@ -215,14 +219,23 @@ fn is_next_accepted<R: WasmModuleResources>(
 ) -> bool
     requires visit { MayVisit (R.context body.now.context.now.resources.now) (stacks_of v.old) }
     requires same { resources.now ≡ body.now.context.now.resources.now }
-    ensures turn { result ≡ true → IsTurn (R.context body.now.context.now.resources.now) body.now.context.now.types
-        reader.old.left reader.new.left (state v.old) (state v.new) }
-    ensures told { result ≡ false → IsSome refusal.new }
-    ensures fault { result ≡ false → IfSome refusal.new (IsFault
+    requires untold { refusal.old ≡ None }
+    ensures untold { result ≡ true → refusal.new ≡ None }
+    ensures turn { refusal.new ≡ None → IsTurn (R.context body.now.context.now.resources.now)
+        body.now.context.now.types reader.old.left reader.new.left (state v.old) (state v.new) }
+    ensures open { result ≡ true → (state v.new).present.frames ≢ [] }
+    ensures closed { result ≡ false → refusal.new ≡ None → (state v.new).present.frames ≡ [] }
+    ensures fault { IfSome refusal.new (IsFault
         (body_context (R.context body.now.context.now.resources.now) (state v.old)) body.now.context.now.types
         (may_stand None) body.now.end (state v.old).present reader.old.left) }
 {
-    passes_common(v, resources, reader) || is_lent_accepted(v, body, reader, lists, refusal)
+    match common_turn(v, resources, reader) {
+        Turn::Open => true,
+        Turn::Closed => false,
+        Turn::NotPassed => {
+            is_lent_accepted(v, body, reader, lists, refusal) && v.control_stack_height() > 0
+        }
+    }
 }
 
 /// [`check_operators`] of a function, in which any operator may stand.
@@ -241,19 +254,14 @@ fn check_function_operators<R: WasmModuleResources>(
     let mut refusal = None;
     let resources = body.context.resources;
     let mut reader = code.duplicate();
-    for _ in 0..code.bytes_left() {
-        if !is_next_accepted(v, resources, body, &mut reader, lists, &mut refusal) {
-            return Err(match refusal {
-                Some(error) => error,
-                None => unclosed(body.offset_of(&reader)),
-            });
-        }
-        if v.control_stack_height() == 0 {
+    while is_open_behind(v, resources, body, &mut reader, lists, &mut refusal) {}
+    match refusal {
+        Some(error) => Err(error),
+        None => {
             let end = body.offset_of(&reader);
-            return check_end(reader, end);
+            check_end(reader, end)
         }
     }
-    Err(unclosed(body.offset_of(&reader)))
 }
 
 /// Reads operators up to the end of the bytes, and checks each by the validator of their body, which starts.
@@ -289,6 +297,7 @@ fn is_accepted_by_check<R: WasmModuleResources>(
     requires { MayVisit (R.context resources.now) (stacks_of v.old) }
     ensures row { result ≡ true → Meets (R.context resources.now) (λ cx. operator cx op.now) offset (state v.old)
         (Ok tt) (state v.new) }
+    ensures untold { result ≡ true → refusal.new ≡ refusal.old }
     ensures told { result ≡ false → IsSome refusal.new }
     ensures refused { result ≡ false → IfSome refusal.new (IsRefusedFor
         (RowFails (step_body (R.context resources.now) (λ cx. operator cx op.now) (state v.old))) offset) }
@@ -315,6 +324,7 @@ fn is_accepted<R: WasmModuleResources>(
     requires { MayVisit (R.context resources.now) (stacks_of v.old) }
     ensures row { result ≡ true → Meets (R.context resources.now) (λ cx. operator cx op.now) offset (state v.old)
         (Ok tt) (state v.new) }
+    ensures untold { result ≡ true → refusal.new ≡ refusal.old }
     ensures told { result ≡ false → IsSome refusal.new }
     ensures refused { result ≡ false → IfSome refusal.new (IsRefusedFor
         (RowFails (step_body (R.context resources.now) (λ cx. operator cx op.now) (state v.old))) offset) }

@@ -239,7 +239,7 @@ fn passes_f64<'a, R: WasmModuleResources>(
 }
 
 /// Whether the next operator passes at once, where its first byte tells how it is read. Then it is read; otherwise nothing
-/// is changed. It is asked behind [`crate::common::passes_common`], and lent a reader that lies in memory.
+/// is changed. It is asked behind [`crate::common::common_turn`], and lent a reader that lies in memory.
 #[inline(always)]
 #[tactic(auto, using(crate::proofs::Turned::unchanged))]
 pub(crate) fn passes_told<'a, R: WasmModuleResources>(

@@ -1,13 +1,18 @@
 -- The operator that is handed in passes at once, or nothing is changed.
+use Rattle.std.proofs.Common.{refl}
 use Rattle.validate_visit.specs.declared.op.Op.TheVariants.{Memory}
 use Rattle.validate_operators.specs.Validator.{stacks_of}
-use Rattle.module_check.proofs.Turned.{at_once, not_at_once}
+use Rattle.module_check.proofs.Turned.{at_once, not_at_once, open_at_once}
 use Rattle.module_check.proofs.common.passes_memory.Goals as goal
 
-pub returns-then-memory_passes_at_once : goal.returns-then-memory_passes_at_once
-returns-then-memory_passes_at_once g c =
+pub returns-then-memory_passes_at_once-clause-passed : goal.returns-then-memory_passes_at_once-clause-passed
+returns-then-memory_passes_at_once-clause-passed g c =
     at_once (g.R.WasmModuleResources.context c.args.resources.now) (Memory c.args.op) c.args.reader.now c.args.rest (stacks_of c.args.v.now) (stacks_of c.memory_passes_at_once.new.self) c.memory_passes_at_once.result c.requires.like c.memory_passes_at_once.ensures c.if-memory_passes_at_once.true
 
-pub returns : goal.returns
-returns g c =
+pub returns-then-memory_passes_at_once-clause-open : goal.returns-then-memory_passes_at_once-clause-open
+returns-then-memory_passes_at_once-clause-open g c = λ passed.
+    open_at_once (g.R.WasmModuleResources.context c.args.resources.now) (Memory c.args.op) (stacks_of c.args.v.now) (stacks_of c.memory_passes_at_once.new.self) c.memory_passes_at_once.result c.requires.visit refl c.memory_passes_at_once.ensures c.if-memory_passes_at_once.true
+
+pub returns-clause-passed : goal.returns-clause-passed
+returns-clause-passed g c =
     not_at_once (g.R.WasmModuleResources.context c.args.resources.now) (Memory c.args.op) c.args.reader.now (stacks_of c.args.v.now) (stacks_of c.memory_passes_at_once.new.self) c.memory_passes_at_once.result c.memory_passes_at_once.ensures c.if-memory_passes_at_once.false

@@ -104,8 +104,8 @@ fn any_select<A: Refused, R: WasmModuleResources>(body: Body<'_, '_, R>) -> Resu
         result body.exit }
 {
     body.find_operands(0, &[ValType::I32])?;
-    let upper = *body.stacks.find_any(1)?;
-    let lower = *body.stacks.find_any(2)?;
+    let upper = body.stacks.find_any(1)?;
+    let lower = body.stacks.find_any(2)?;
     let ty = find_selected(&lower, &upper)?;
     let own = body.stacks.own_len();
     body.stacks.replace(own.min(3), ty)

@@ -121,7 +121,7 @@ fn find_reference<A: Refused>(stacks: &Stacks) -> Result<MaybeType, A>
     ensures refused { OnErr result (option_and_then operand_without_null
         (found_in_body stacks.now.body) ≡ None) }
 {
-    let found = *stacks.find_any(0)?;
+    let found = stacks.find_any(0)?;
     if let Some(reference) = without_null(found) {
         return Ok(reference);
     }

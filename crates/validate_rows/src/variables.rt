@@ -5,7 +5,7 @@ ghost use Rattle.validation_rules.specs.Operators.{row_operator, local_get_row, 
 ghost use Rattle.validate_stacks.specs.Bodies.{MayBegin, Makes};
 
 use validate_resources::WasmModuleResources;
-use validate_shapes::plain::constant;
+use validate_shapes::plain::local_constant;
 use validate_stacks::Body;
 use validate_types::Refused;
 
@@ -19,9 +19,9 @@ pub fn local_get<A: Refused, R: WasmModuleResources>(
     ensures { Makes R.context A.tells (λ cx. row_operator (local_get_row cx local_index)) body.entry
         result body.exit }
 {
-    let ty = *body.stacks.find_local(local_index)?;
+    let ty = body.stacks.find_local(local_index)?;
     body.stacks.find_set(local_index)?;
-    constant(body, ty)
+    local_constant(body, ty)
 }
 
 /// `local.set`: `[t] -> []`, and the local is set. Most are set already, and are numbers.
@@ -35,11 +35,11 @@ pub fn local_set<A: Refused, R: WasmModuleResources>(
         result body.exit }
 {
     let resources = body.resources;
-    let ty = *body.stacks.find_local(local_index)?;
+    let ty = body.stacks.find_local(local_index)?;
     if body.stacks.is_uninit(local_index) {
         return any_local_set(body, local_index);
     }
-    if body.stacks.exchange_numbers_at_once(resources, &[ty], None) {
+    if body.stacks.pop_local_at_once(resources, ty) {
         return Ok(());
     }
     any_local_set(body, local_index)
@@ -55,7 +55,7 @@ fn any_local_set<A: Refused, R: WasmModuleResources>(
     ensures { Makes R.context A.tells (λ cx. row_operator (local_set_row cx local_index)) body.entry
         result body.exit }
 {
-    let ty = *body.stacks.find_local(local_index)?;
+    let ty = body.stacks.find_local_type(local_index)?;
     if body.stacks.is_uninit(local_index) {
         return body.exchange_setting(local_index, ty, &[]);
     }
@@ -77,11 +77,11 @@ pub fn local_tee<A: Refused, R: WasmModuleResources>(
         result body.exit }
 {
     let resources = body.resources;
-    let ty = *body.stacks.find_local(local_index)?;
+    let ty = body.stacks.find_local(local_index)?;
     if body.stacks.is_uninit(local_index) {
         return any_local_tee(body, local_index);
     }
-    if body.stacks.has_number_at_once(resources, ty) {
+    if body.stacks.has_local_at_once(resources, ty) {
         return Ok(());
     }
     any_local_tee(body, local_index)
@@ -97,7 +97,7 @@ fn any_local_tee<A: Refused, R: WasmModuleResources>(
     ensures { Makes R.context A.tells (λ cx. row_operator (local_tee_row cx local_index)) body.entry
         result body.exit }
 {
-    let ty = *body.stacks.find_local(local_index)?;
+    let ty = body.stacks.find_local_type(local_index)?;
     if body.stacks.is_uninit(local_index) {
         return body.exchange_setting(local_index, ty, &[ty]);
     }

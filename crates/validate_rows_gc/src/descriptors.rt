@@ -65,7 +65,7 @@ pub fn ref_get_desc<A: Refused, R: WasmModuleResources>(
     let Some(descriptor) = descriptor_at(body.resources, type_index)? else {
         return Err(A::of(Refusal::NoDescriptor));
     };
-    let found = *body.stacks.find_any(0)?;
+    let found = body.stacks.find_any(0)?;
     let pushed = RefType {
         nullable: false,
         heap_type: declared_heap(
@@ -119,7 +119,7 @@ fn find_descriptor<A: Refused, R: WasmModuleResources>(
 {
     let expected = ValType::Ref(RefType::concrete(true, descriptor));
     body.find_operands(0, &[expected])?;
-    let found = *body.stacks.find_any(0)?;
+    let found = body.stacks.find_any(0)?;
     if exact {
         check_exact(body.resources, descriptor, found)
     } else {

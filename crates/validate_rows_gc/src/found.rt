@@ -87,7 +87,7 @@ fn find_below<A: Refused, R: WasmModuleResources>(
     ensures refused { OnErr result (option_and_then (operand_found_below (R.context body.now.resources.now)
         expected) (found_after_pops_in_body depth body.now.stacks.now.body) ≡ None) }
 {
-    let found = *body.stacks.find_any(depth)?;
+    let found = body.stacks.find_any(depth)?;
     if is_found_below(body.resources, expected, found) {
         Ok(found)
     } else {

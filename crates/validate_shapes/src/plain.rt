@@ -12,7 +12,7 @@ ghost use Rattle.validation_rules.specs.Static.{RowFails};
 use crate::numbers::{once, twice};
 use validate_resources::WasmModuleResources;
 use validate_stacks::Body;
-use validate_types::{MaybeType, Refused, ValType};
+use validate_types::{LocalType, Operand, Refused, ValType};
 
 /// `[expected] -> [pushed]`, the last of each on top. It is called, so that what stands in each visit stays short.
 #[inline(never)]
@@ -41,7 +41,21 @@ pub fn constant<A: Refused, R: WasmModuleResources>(
     ensures { Makes R.context A.tells (λ cx. row_operator (plain_row [] (pushed ∷ []))) body.entry
         result body.exit }
 {
-    body.stacks.push_operand(MaybeType::Known(pushed))
+    body.stacks.push_operand(Operand::known(pushed))
+}
+
+/// The fast lane of [`constant`] for the type of a local, which is pushed as it is kept.
+#[inline(always)]
+pub fn local_constant<A: Refused, R: WasmModuleResources>(
+    body: Body<'_, '_, R>,
+    pushed: LocalType,
+) -> Result<(), A>
+    requires visit { MayBegin R.context body }
+    requires pushed { Valid (R.context body.resources.now) pushed }
+    ensures { Makes R.context A.tells (λ cx. row_operator (plain_row [] (pushed ∷ []))) body.entry
+        result body.exit }
+{
+    body.stacks.push_operand(pushed.operand())
 }
 
 /// The fast lane of [`plain`] from one number or vector: `[expected] -> [pushed]`. The list is written twice,

@@ -114,6 +114,25 @@ popped_dropped md expected v h = by v.present.frames refl
         (sym (ap (λ gs. all_fit (body_context md v) (operands_found_in (length expected) gs) expected) e) ∙ h)
         ∙ ap (λ gs. Some (body_with_frames gs v)) (sym (ap (frames_dropped (length expected)) e))
 
+-- what is found below no other
+found_first : (v : BodyState) → found_in_body v ≡ found_after_pops_in_body 0 v
+found_first v = by v.present.frames
+  where
+    by : (fs : List Frame) → found_in_body (body_with_frames fs v) ≡ found_after_pops_in_frames 0 fs
+    by [] = refl
+    by (f ∷ fs) = refl
+
+-- the operand that is found, known to be of the expected type, is popped
+pub known_popped :
+    (md : ModuleContext) → IsLawful md → (v : BodyState) (t : ValType) → Valid md t →
+    found_after_pops_in_body 0 v ≡ Some (Known t) → body_popped_each md (t ∷ []) v ≡ Some (body_dropped 1 v)
+known_popped md laws v t valid found =
+    popped_next md t [] v
+    ∙ guard_open (may_pop (body_context md v) (found_in_body v) (Some t)) (body_popped_each md [] (body_popped v))
+    (ap (λ o. may_pop (body_context md v) o (Some t)) (found_first v) ∙ known_fits md laws v 0 t valid found)
+    ∙ popped_none md (body_popped v)
+    ∙ ap Some (ap body_popped (sym (dropped_none v)) ∙ dropped_next 0 v)
+
 -- what is found below one other is found after it was popped
 pub found_below : (v : BodyState) → found_after_pops_in_body 1 v ≡ found_in_body (body_popped v)
 found_below v = by v.present.frames

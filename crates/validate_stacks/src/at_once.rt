@@ -1,6 +1,6 @@
 //! Operands and frames, moved at once where that needs no log and no memory.
 
-ghost use Rattle.std.specs.Prelude.{◌≡◌, ◌≤◌, [], ◌∷◌, true, None, Some, length, reverse, IsSome, MatchBool};
+ghost use Rattle.std.specs.Prelude.{◌≡◌, ◌<◌, ◌≤◌, [], ◌∷◌, true, None, Some, length, reverse, IsSome, MatchBool};
 ghost use Rattle.std.specs.List.{AllByRecursion};
 ghost use Rattle.std.specs.Option.{option_map};
 ghost use Rattle.validate_resources.specs.Context.{Valid};
@@ -12,13 +12,13 @@ ghost use Rattle.validate_stacks.specs.AtOnce.{body_dropped, pushed_list};
 ghost use Rattle.validate_stacks.specs.Blocks.{body_with_block};
 ghost use Rattle.validate_stacks.specs.Pops.{body_popped_each, body_pushed_each};
 ghost use Rattle.validate_stacks.specs.State.{IsValidBody};
-ghost use Rattle.validate_stacks.specs.Steps.{innermost_operands, found_in_body, body_popped, body_pushed};
+ghost use Rattle.validate_stacks.specs.Steps.{innermost_operands, found_in_body, found_after_pops_in_body, body_popped, body_pushed};
 
 use crate::blocks::params;
 use crate::pops::is_same_number;
 use crate::stacks::Stacks;
 use validate_resources::WasmModuleResources;
-use validate_types::{MaybeType, ValType};
+use validate_types::{LocalType, MaybeType, Operand, ValType};
 use validate_visit::{BlockType, FrameKind};
 
 impl Stacks {
@@ -59,7 +59,7 @@ impl Stacks {
                 self.drop_operands(count - 1);
                 // The lowest is often of the pushed type, and stays.
                 if !is_same_number(ty, expected[0]) {
-                    self.replace_operand(MaybeType::Known(ty));
+                    self.replace_operand(Operand::known(ty));
                 }
             }
             None => self.drop_operands(count),
@@ -99,27 +99,68 @@ impl Stacks {
         match pushed {
             Some(ty) => {
                 self.drop_operands(count - 1);
-                self.replace_operand(MaybeType::Known(ty));
+                self.replace_operand(Operand::known(ty));
             }
             None => self.drop_operands(count),
         }
         true
     }
 
-    /// The fast lane of [`Body::exchange_types`] from a type to itself: whether the operand that is found is
-    /// an own one of the innermost frame, and known to be of this number or vector type, while no attempt is
-    /// pending. Then a pop and a push of the type leave what there is.
+    /// The fast lane of [`Body::exchange_types`] from the type of a local to itself: whether the operand that is
+    /// found is an own one of the innermost frame, and known to be of this number or vector type, while no
+    /// attempt is pending. Then a pop and a push of the type leave what there is.
     #[inline(always)]
-    pub fn has_number_at_once<R: WasmModuleResources>(&self, resources: &R, ty: ValType) -> bool
+    pub fn has_local_at_once<R: WasmModuleResources>(&self, resources: &R, ty: LocalType) -> bool
         requires valid { Valid (R.context resources.now) ty }
         requires state { IsValidBody (R.context resources.now) self.now.body }
         ensures { result ≡ true → option_map (body_pushed_each (ty ∷ []))
             (body_popped_each (R.context resources.now) (ty ∷ []) self.now.body) ≡ Some self.now.body }
     {
+        // The contract alone reads it.
+        let _resources = resources;
+        self.has_local(ty)
+    }
+
+    /// The fast lane of moves of a local asks this: whether the operand that is found is an own one of the innermost
+    /// frame, and known to be of this number or vector type, while no attempt is pending.
+    #[inline(always)]
+    fn has_local(&self, ty: LocalType) -> bool
+        ensures idle { result ≡ true → self.now.body.undone ≡ None }
+        ensures own { result ≡ true → 0 < length (innermost_operands self.now.body.present.frames) }
+        ensures found { result ≡ true → found_after_pops_in_body 0 self.now.body ≡ Some (Known ty) }
+    {
         if self.is_pending() || !self.has_own(1) {
             return false;
         }
-        self.has_same_numbers(resources, &[ty])
+        match self.own_operand(0) {
+            Some(operand) => operand.is_same_number(ty.operand()),
+            None => false,
+        }
+    }
+
+    /// The fast lane of [`Body::exchange_types`] from the type of a local to nothing: takes the operand that is
+    /// found, where [`Stacks::has_local_at_once`] is so. False, with nothing changed, where it isn't.
+    #[inline(always)]
+    pub fn pop_local_at_once<R: WasmModuleResources>(
+        &mut self,
+        resources: &R,
+        ty: LocalType,
+    ) -> bool
+        requires valid { Valid (R.context resources.now) ty }
+        requires state { IsValidBody (R.context resources.now) self.old.body }
+        ensures exact { MatchBool result
+            (option_map (body_pushed_each [])
+            (body_popped_each (R.context resources.now) (ty ∷ []) self.old.body) ≡ Some self.new.body)
+            (self.new ≡ self.old) }
+        ensures phase { phase_moved self.new.phase ≡ phase_moved self.old.phase }
+    {
+        // The contract alone reads it.
+        let _resources = resources;
+        if !self.has_local(ty) {
+            return false;
+        }
+        self.drop_operands(1);
+        true
     }
 
     /// The fast lane of [`Body::exchange_types`] in dead code: pushes an operand of this type, where the
@@ -137,7 +178,7 @@ impl Stacks {
             return false;
         }
         match self.found_at(0) {
-            Some(MaybeType::Bottom) => self.push_at_once(MaybeType::Known(ty)),
+            Some(MaybeType::Bottom) => self.push_at_once(Operand::known(ty)),
             _ => false,
         }
     }
@@ -146,7 +187,7 @@ impl Stacks {
     /// attempt is pending, and pushes one, where there is room, if none goes. False, with nothing changed,
     /// where there is none. It takes no memory.
     #[inline(always)]
-    pub(crate) fn replace_own(&mut self, count: usize, pushed: MaybeType) -> bool
+    pub(crate) fn replace_own(&mut self, count: usize, pushed: Operand) -> bool
         requires idle { self.old.body.undone ≡ None }
         requires own { count ≤ length (innermost_operands self.old.body.present.frames) }
         ensures exact { MatchBool result

@@ -11,7 +11,7 @@ use crate::control::ControlStack;
 use crate::stacks::{Stacks, live_frame};
 use validate_locals::LocalInits;
 use validate_transaction::{Closed, Entry, Pile, Transaction};
-use validate_types::{MaybeType, Refusal, Refused, ValType};
+use validate_types::{MaybeType, Operand, Refusal, Refused, ValType};
 use validate_visit::{BlockType, Frame, FrameKind};
 
 /// What one call does to a body, in this order.
@@ -67,7 +67,7 @@ fn make_room_to_set<A: Refused>(inits: &mut LocalInits, sets: Option<u32>) -> Re
 /// Room for all that comes, and how many operands that are. Want of memory changes nothing but room.
 #[inline(always)]
 fn make_room<A: Refused>(
-    operands: &mut Pile<MaybeType>,
+    operands: &mut Pile<Operand>,
     control: &mut ControlStack,
     inits: &mut LocalInits,
     change: Change<'_>,
@@ -108,11 +108,11 @@ fn make_room<A: Refused>(
 /// Records it in the log of the attempt, if one is pending. Want of memory changes nothing, and there is none where no
 /// attempt is pending.
 #[inline(always)]
-fn record<A: Refused>(
+fn record<'a, A: Refused>(
     transaction: &mut Transaction,
-    operands: &Pile<MaybeType>,
-    control: &ControlStack,
-    inits: &LocalInits,
+    operands: &'a Pile<Operand>,
+    control: &'a ControlStack,
+    inits: &'a LocalInits,
     change: Change<'_>,
     pushed: usize,
 ) -> Result<(), A>
@@ -206,25 +206,25 @@ fn open(
 
 /// Puts an operand of each of these types, the first of the list first, where there is room for all. It takes no memory.
 #[inline(always)]
-fn give(operands: &mut Pile<MaybeType>, types: &[ValType])
+fn give(operands: &mut Pile<Operand>, types: &[ValType])
     requires { length operands.old.items + length types.now ≤ operands.old.room }
     ensures items { operands.new.items ≡ operands_given types.now operands.old.items }
     ensures never_less { operands.old.room ≤ operands.new.room }
 {
     for ty in types {
-        operands.put(MaybeType::Known(*ty));
+        operands.put(Operand::known(*ty));
     }
 }
 
 /// Puts an operand, if there is one, where there is room. It takes no memory.
 #[inline(always)]
-fn put_top(operands: &mut Pile<MaybeType>, top: Option<MaybeType>)
+fn put_top(operands: &mut Pile<Operand>, top: Option<MaybeType>)
     requires { top ≢ None → length operands.old.items < operands.old.room }
     ensures items { operands.new.items ≡ operands_topped top operands.old.items }
     ensures never_less { operands.old.room ≤ operands.new.room }
 {
     if let Some(ty) = top {
-        operands.put(ty);
+        operands.put(Operand::of(ty));
     }
 }
 

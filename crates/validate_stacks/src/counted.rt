@@ -10,7 +10,6 @@ ghost use Rattle.validate_stacks.specs.State.{IsValidBody, body_context};
 ghost use Rattle.validate_stacks.specs.Steps.{innermost_operands, found_after_pops_in_body};
 
 use crate::body::Body;
-use crate::pops::is_known_number;
 use crate::stacks::Stacks;
 use std::marker::Model;
 use validate_resources::WasmModuleResources;
@@ -151,7 +150,7 @@ impl Stacks {
             left -= 1;
             pops.tick();
             let depth = count - 1 - left;
-            if !is_known_number(&operands[left], elem)
+            if !operands[left].is_number(elem)
                 && !self.is_element_fitting(resources, depth, &elem)
             {
                 return Err(self.misfit(resources, depth, &elem));

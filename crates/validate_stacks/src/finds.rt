@@ -18,7 +18,7 @@ use crate::body::Body;
 use crate::pops::unknown_reference;
 use crate::stacks::Stacks;
 use validate_resources::WasmModuleResources;
-use validate_types::{FieldType, MaybeType, Refusal, Refused, ValType};
+use validate_types::{FieldType, LocalType, MaybeType, Refusal, Refused, ValType};
 use validate_visit::{BlockType, FrameKind};
 
 impl<R: WasmModuleResources> Body<'_, '_, R> {
@@ -223,12 +223,12 @@ impl Stacks {
 
     /// What a pop finds after so many others. It refuses where it finds nothing.
     #[inline(always)]
-    pub fn find_any<A: Refused>(&self, depth: usize) -> Result<&MaybeType, A>
-        ensures found { IfOk result (λ ty. found_after_pops_in_body depth self.now.body ≡ Some ty.now) }
+    pub fn find_any<A: Refused>(&self, depth: usize) -> Result<MaybeType, A>
+        ensures found { IfOk result (λ ty. found_after_pops_in_body depth self.now.body ≡ Some ty) }
         ensures missing { OnErr result (found_after_pops_in_body depth self.now.body ≡ None) }
     {
         match self.operand_found(depth) {
-            Some(ty) => Ok(ty),
+            Some(operand) => Ok(operand.ty()),
             None => Err(A::of(Refusal::NothingFound(None))),
         }
     }
@@ -245,16 +245,25 @@ impl Stacks {
         }
     }
 
-    /// Where the declared type of a local lies. It refuses an index past the end.
+    /// The declared type of a local. It refuses an index past the end.
     #[inline(always)]
-    pub fn find_local<A: Refused>(&self, local_index: u32) -> Result<&ValType, A>
-        ensures found { IfOk result (λ ty. slice_get self.now.body.locals local_index ≡ Some ty.now) }
+    pub fn find_local<A: Refused>(&self, local_index: u32) -> Result<LocalType, A>
+        ensures found { IfOk result (λ ty. slice_get self.now.body.locals local_index ≡ Some ty) }
         ensures missing { OnErr result (slice_get self.now.body.locals local_index ≡ None) }
     {
         match self.locals().find(local_index) {
-            Some(ty) => Ok(ty),
+            Some(ty) => Ok(*ty),
             None => Err(A::of(Refusal::UnknownLocal(local_index))),
         }
+    }
+
+    /// The same, as a [`ValType`].
+    pub fn find_local_type<A: Refused>(&self, local_index: u32) -> Result<ValType, A>
+        ensures found { IfOk result (λ ty. slice_get self.now.body.locals local_index ≡ Some ty) }
+        ensures missing { OnErr result (slice_get self.now.body.locals local_index ≡ None) }
+    {
+        let ty = self.find_local(local_index)?;
+        Ok(ty.ty())
     }
 
     /// That a declared local is set. It refuses one that isn't.

@@ -10,10 +10,10 @@ ghost use Rattle.validate_stacks.specs.State.{IsValidBody, body_context};
 ghost use Rattle.validate_stacks.specs.Pops.{body_pushed_each, has_operands_fitting, may_pop};
 ghost use Rattle.validate_stacks.specs.Steps.{innermost_operands, found_after_pops_in_body};
 
-use crate::pops::{fits_at_once, is_known_as, is_known_number};
+use crate::pops::{fits_at_once, is_known_as};
 use crate::stacks::Stacks;
 use validate_resources::WasmModuleResources;
-use validate_types::{MaybeType, ValType};
+use validate_types::ValType;
 
 impl Stacks {
     /// The fast lane of [`Body::exchange_types`] asks this: whether the top own operands of the innermost
@@ -89,7 +89,7 @@ impl Stacks {
         // The contract alone reads it.
         let _resources = resources;
         match self.own_operand(depth) {
-            Some(operand) => is_known_as(operand, expected),
+            Some(operand) => is_known_as(operand.ty(), *expected),
             None => false,
         }
     }
@@ -102,7 +102,7 @@ impl Stacks {
         ensures { result ≡ true → found_after_pops_in_body depth self.now.body ≡ Some (Known expected) }
     {
         match self.own_operand(depth) {
-            Some(operand) => is_known_number(operand, expected),
+            Some(operand) => operand.is_number(expected),
             None => false,
         }
     }
@@ -149,7 +149,7 @@ impl Stacks {
         // The contract alone reads it.
         let _resources = resources;
         match self.operand_found_of(own, depth) {
-            Some(found) => fits_at_once(found, Some(*expected)),
+            Some(found) => fits_at_once(found, *expected),
             None => false,
         }
     }
@@ -168,12 +168,6 @@ impl Stacks {
         ensures { result ≡ may_pop (body_context (R.context resources.now) self.now.body)
             (found_after_pops_in_body depth self.now.body) (Some expected.now) }
     {
-        // An own operand is compared where it lies.
-        if depth < self.own_len() {
-            if let Some(MaybeType::Known(found)) = self.operands.get(depth) {
-                return resources.is_subtype(*found, *expected);
-            }
-        }
         self.is_fitting(resources, self.found_at(depth), *expected)
     }
 }

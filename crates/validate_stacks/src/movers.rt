@@ -9,7 +9,7 @@ ghost use Rattle.validate_stacks.specs.Steps.{innermost_operands, body_pushed, b
 
 use crate::change::Change;
 use crate::stacks::Stacks;
-use validate_types::{MaybeType, Refused, ValType};
+use validate_types::{MaybeType, Operand, Refused, ValType};
 use validate_visit::{BlockType, FrameKind};
 
 impl Stacks {
@@ -32,7 +32,7 @@ impl Stacks {
                 self.drop_operands(popped);
                 return Ok(());
             };
-            if self.replace_own(popped, MaybeType::Known(*ty)) {
+            if self.replace_own(popped, Operand::known(*ty)) {
                 return Ok(());
             }
         }
@@ -71,7 +71,7 @@ impl Stacks {
         ensures idle { self.old.body.undone ≡ None → 0 < popped → IsOk result }
     {
         if !self.is_pending() {
-            if self.replace_own(popped, ty) {
+            if self.replace_own(popped, Operand::of(ty)) {
                 return Ok(());
             }
         }
@@ -249,7 +249,7 @@ impl Stacks {
         // Where no attempt is pending, and one comes at most for as many that go, what lies there passes over.
         if pushed.len() <= 1 && popped == pushed.len() && !self.is_pending() {
             if let Some(ty) = pushed.first() {
-                self.replace_operand(MaybeType::Known(*ty));
+                self.replace_operand(Operand::known(*ty));
             }
             self.close_over_operands();
             return Ok(());

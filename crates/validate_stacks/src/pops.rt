@@ -12,7 +12,9 @@ ghost use Rattle.validate_stacks.specs.Pops.{may_pop, FitsAtOnce, IsKnownAs, IsT
 
 use crate::stacks::Stacks;
 use validate_resources::WasmModuleResources;
-use validate_types::{AbstractHeapType, HeapType, MaybeType, RefType, UnpackedIndex, ValType};
+use validate_types::{
+    AbstractHeapType, HeapType, MaybeType, Operand, RefType, UnpackedIndex, ValType,
+};
 
 /// The name of a type in a refusal (wasmparser's `ty_to_str`).
 pub fn ty_to_str(ty: ValType) -> &'static str
@@ -45,17 +47,13 @@ pub(crate) fn unknown_reference<R: WasmModuleResources>(
     })
 }
 
-/// The fast lane of [`Stacks::is_fitting`]: whether nothing is expected, or this operand isn't known at all,
-/// or is the expected number or vector type.
+/// The fast lane of [`Stacks::is_fitting`]: whether this operand isn't known at all, or is the expected number
+/// or vector type.
 #[inline(always)]
-pub(crate) fn fits_at_once(found: MaybeType, expected: Option<ValType>) -> bool
-    ensures { result ≡ true → FitsAtOnce found expected }
+pub(crate) fn fits_at_once(found: Operand, expected: ValType) -> bool
+    ensures { result ≡ true → FitsAtOnce found (Some expected) }
 {
-    match (found, expected) {
-        (_, None) | (MaybeType::Bottom, _) => true,
-        (MaybeType::Known(found), Some(expected)) => is_same_number(found, expected),
-        (MaybeType::UnknownRef(_), Some(_)) => false,
-    }
+    found.is_bottom() || found.is_number(expected)
 }
 
 /// The fast lane of [`ValType::eq`]: whether this is twice the same number or vector type.
@@ -67,29 +65,18 @@ pub(crate) fn is_same_number(found: ValType, expected: ValType) -> bool
     place < 5 && place_of(found) == place
 }
 
-/// The fast lane of [`MaybeType::eq`]: whether the operand is known to be of this number or vector type.
-#[inline(always)]
-pub(crate) fn is_known_number(operand: &MaybeType, expected: ValType) -> bool
-    ensures { result ≡ true → operand.now ≡ Known expected }
-{
-    match operand {
-        MaybeType::Known(found) => is_same_number(*found, expected),
-        _ => false,
-    }
-}
-
 /// The fast lane of [`Stacks::is_fitting`] for a known operand: whether it is known to be of this type, be it
 /// that a reference is exact in its type or without null.
 #[inline(always)]
-pub(crate) fn is_known_as(operand: &MaybeType, expected: &ValType) -> bool
-    ensures { result ≡ true → IsKnownAs operand.now expected.now }
+pub(crate) fn is_known_as(found: MaybeType, expected: ValType) -> bool
+    ensures { result ≡ true → IsKnownAs found expected }
 {
-    match (operand, expected) {
+    match (found, expected) {
         (MaybeType::Known(ValType::Ref(found)), ValType::Ref(expected)) => {
             (expected.nullable || !found.nullable)
                 && is_to_same(found.heap_type, expected.heap_type)
         }
-        (MaybeType::Known(found), _) => is_same_number(*found, *expected),
+        (MaybeType::Known(found), _) => is_same_number(found, expected),
         _ => false,
     }
 }

@@ -17,14 +17,16 @@ use std::alloc::Global;
 use std::marker::Model;
 use validate_locals::{LocalInits, Locals};
 use validate_transaction::{Pile, Transaction, take_back};
-use validate_types::{MaybeType, OutOfMemory, Refusal, Refused, ValType, WasmFeatures, grown};
+use validate_types::{
+    MaybeType, Operand, OutOfMemory, Refusal, Refused, ValType, WasmFeatures, grown,
+};
 use validate_visit::{BlockType, Frame, FrameKind};
 
 /// The operands, the open frames and the locals of a body (wasmparser's `OperatorValidator` without
 /// its visits). Contracts see a `BodyState` of `specs/`, whose frames have operands of their own.
 #[derive(Drop)]
 pub struct Stacks {
-    pub(crate) operands: Pile<MaybeType>,
+    pub(crate) operands: Pile<Operand>,
     pub(crate) control: ControlStack,
     pub(crate) locals: Locals,
     pub(crate) inits: LocalInits,
@@ -228,8 +230,8 @@ impl Stacks {
     pub fn peek_operand_at(&self, depth: usize) -> Option<Option<ValType>>
         ensures { result ≡ type_at_depth self.now.body depth }
     {
-        let ty = self.operands.get(depth)?;
-        Some(known_type(*ty))
+        let operand = self.operands.get(depth)?;
+        Some(known_type(operand.ty()))
     }
 
     /// The frame at this depth, the innermost at 0, or None past the end.
@@ -252,7 +254,7 @@ impl Stacks {
 
     /// Pushes an operand onto the innermost frame. Want of memory changes nothing.
     #[inline(always)]
-    pub fn push_operand<A: Refused>(&mut self, ty: MaybeType) -> Result<(), A>
+    pub fn push_operand<A: Refused>(&mut self, ty: Operand) -> Result<(), A>
         ensures exact { MatchResult result (λ _. self.new.body ≡ body_pushed ty self.old.body)
             (λ _. self.new ≡ self.old) }
         ensures told { IfErr result (λ e. A.tells e → ⊥) }
@@ -266,7 +268,7 @@ impl Stacks {
     /// The fast lane of [`Stacks::push_operand`]: pushes an operand onto the innermost frame, where there is
     /// room and no attempt is pending. False, with nothing changed, where that isn't so. It takes no memory.
     #[inline(always)]
-    pub fn push_at_once(&mut self, ty: MaybeType) -> bool
+    pub fn push_at_once(&mut self, ty: Operand) -> bool
         ensures exact { MatchBool result (self.new.body ≡ body_pushed ty self.old.body) (self.new ≡ self.old) }
         ensures phase { phase_moved self.new.phase ≡ phase_moved self.old.phase }
     {
@@ -280,7 +282,7 @@ impl Stacks {
     /// The fast lane of [`Stacks::replace_any`] for one operand: puts one in the place of the top own one of
     /// the innermost frame, while no attempt is pending. It takes no memory.
     #[inline(always)]
-    pub(crate) fn replace_operand(&mut self, ty: MaybeType)
+    pub(crate) fn replace_operand(&mut self, ty: Operand)
         requires idle { self.old.body.undone ≡ None }
         requires own { innermost_operands self.old.body.present.frames ≢ [] }
         ensures replaced { self.new.body ≡ body_pushed ty (body_popped self.old.body) }
@@ -408,20 +410,21 @@ impl Stacks {
     pub fn found_at(&self, depth: usize) -> Option<MaybeType>
         ensures { result ≡ found_after_pops_in_body depth self.now.body }
     {
-        self.operand_found(depth).copied()
+        let operand = self.operand_found(depth)?;
+        Some(operand.ty())
     }
 
-    /// Where it lies.
+    /// The same in eight bytes.
     #[inline(always)]
-    pub(crate) fn operand_found(&self, depth: usize) -> Option<&MaybeType>
-        ensures { option_copied result ≡ found_after_pops_in_body depth self.now.body }
+    pub(crate) fn operand_found(&self, depth: usize) -> Option<Operand>
+        ensures { result ≡ found_after_pops_in_body depth self.now.body }
     {
         let frame = self.control.get(0)?;
         if depth < self.operands.len() - frame.height {
-            return self.operands.get(depth);
+            return self.operands.get(depth).copied();
         }
         if frame.unreachable {
-            Some(&MaybeType::Bottom)
+            Some(Operand::of(MaybeType::Bottom))
         } else {
             None
         }
@@ -430,7 +433,7 @@ impl Stacks {
     /// The fast lane of [`Stacks::operand_found`] for an own operand: that of the innermost frame at this
     /// depth, the top at 0, where it has so many.
     #[inline(always)]
-    pub(crate) fn own_operand(&self, depth: usize) -> Option<&MaybeType>
+    pub(crate) fn own_operand(&self, depth: usize) -> Option<&Operand>
         requires { depth < length (innermost_operands self.now.body.present.frames) }
         ensures { option_copied result ≡ found_after_pops_in_body depth self.now.body }
     {
@@ -441,7 +444,7 @@ impl Stacks {
 
     /// So many own operands of the innermost frame, which has them, the top last.
     #[inline(always)]
-    pub(crate) fn top_operands(&self, count: usize) -> &[MaybeType]
+    pub(crate) fn top_operands(&self, count: usize) -> &[Operand]
         requires { count ≤ length (innermost_operands self.now.body.present.frames) }
         ensures { result.now ≡ reverse (take count (innermost_operands self.now.body.present.frames)) }
     {
@@ -450,17 +453,17 @@ impl Stacks {
         self.operands.newest(count)
     }
 
-    /// The fast lane of [`Stacks::found_at`] where it is known how many own operands there are: what a pop
+    /// The fast lane of [`Stacks::operand_found`] where it is known how many own operands there are: what a pop
     /// would find below so many others, where the innermost frame has so many own operands.
     #[inline(always)]
-    pub(crate) fn operand_found_of(&self, own: usize, depth: usize) -> Option<MaybeType>
+    pub(crate) fn operand_found_of(&self, own: usize, depth: usize) -> Option<Operand>
         requires { own ≡ length (innermost_operands self.now.body.present.frames) }
         ensures { result ≡ found_after_pops_in_body depth self.now.body }
     {
         if depth < own {
             return self.own_operand(depth).copied();
         }
-        self.found_at(depth)
+        self.operand_found(depth)
     }
 
     /// Marks the innermost frame as dead.
@@ -499,10 +502,8 @@ impl Stacks {
     pub fn own_len(&self) -> usize
         ensures { result ≡ length (innermost_operands self.now.body.present.frames) }
     {
-        match self.control.get(0) {
-            Some(frame) => self.operands.len() - frame.height,
-            None => 0,
-        }
+        let height = self.control.innermost_height();
+        self.operands.len().saturating_sub(height)
     }
 
     /// Opens a frame with no operands of its own. Want of memory changes nothing.
@@ -577,7 +578,7 @@ impl Stacks {
 /// but room.
 #[inline(always)]
 pub(crate) fn prepare_push<A: Refused>(
-    operands: &mut Pile<MaybeType>,
+    operands: &mut Pile<Operand>,
     transaction: &mut Transaction,
 ) -> Result<(), A>
     ensures items { operands.new.items ≡ operands.old.items }
@@ -600,7 +601,7 @@ pub(crate) fn prepare_push<A: Refused>(
 #[cold]
 #[inline(never)]
 fn grow_for_push(
-    operands: &mut Pile<MaybeType>,
+    operands: &mut Pile<Operand>,
     transaction: &mut Transaction,
 ) -> Result<(), OutOfMemory>
     ensures items { operands.new.items ≡ operands.old.items }

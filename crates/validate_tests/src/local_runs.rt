@@ -110,7 +110,11 @@ fn expect_row(rt: &(impl Abort + AllocGlobal), row: &Row) {
     declare(rt, &mut locals, row.declared);
     for (index, ty) in row.types {
         expect_same(rt, locals.get(*index), *ty);
-        expect_same(rt, locals.find(*index), ty.as_ref());
+        let found = match locals.find(*index) {
+            Some(ty) => Some(ty.ty()),
+            None => None,
+        };
+        expect_same(rt, found, *ty);
     }
     expect_same(rt, locals.len_locals(), row.count);
     expect_held(rt, &locals, row);

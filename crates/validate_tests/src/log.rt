@@ -9,7 +9,7 @@ use wasmparser_validate::operators::Frame;
 use wasmparser_validate::transaction::{
     Closed, Entry, Pile, RollbackLog, RollbackLogAllocations, Transaction, take_back,
 };
-use wasmparser_validate::types::{MaybeType, NotDone, OutOfMemory, ValType};
+use wasmparser_validate::types::{MaybeType, NotDone, Operand, OutOfMemory, ValType};
 use wasmparser_validate::visit::{BlockType, FrameKind};
 
 /// The frame of a block that takes nothing and gives nothing.
@@ -23,28 +23,31 @@ const BLOCK: Frame = Frame {
 
 const I32: MaybeType = MaybeType::Known(ValType::I32);
 
-/// An operand is popped, the frame is closed and opened anew, and two operands are pushed.
-const ENTRY: Entry<'static> = Entry {
-    popped: &[I32],
-    closed: Some(Closed {
-        frame: &BLOCK,
-        unset: &[1, 0],
-    }),
-    opened: true,
-    pushed: 2,
-};
+/// These operands are popped, the frame is closed and opened anew, and two operands are pushed.
+fn entry_of(popped: &[Operand]) -> Entry<'_> {
+    Entry {
+        popped,
+        closed: Some(Closed {
+            frame: &BLOCK,
+            unset: &[1, 0],
+        }),
+        opened: true,
+        pushed: 2,
+    }
+}
 
 /// Records one of each, and all at once. There is something to undo behind each.
 fn record_each(rt: &impl Abort, log: &mut RollbackLog) {
     ample(rt, log.record_push());
     ample(rt, log.record_pop(&I32));
     expect_same(rt, log.operands.len(), 2);
-    expect_same(rt, log.operands.get(0), Some(&Some(I32)));
+    let popped = [Operand::of(I32)];
+    expect_same(rt, log.operands.get(0), Some(&Some(popped[0])));
     ample(rt, log.push_ctrl());
     ample(rt, log.pop_ctrl(&BLOCK, &[1, 0]));
     expect_same(rt, log.frames.get(0), Some(&Some(BLOCK)));
     expect_same(rt, log.inits.as_slice(), [1, 0].as_slice());
-    let recorded: Result<(), NotDone> = log.record(ENTRY);
+    let recorded: Result<(), NotDone> = log.record(entry_of(&popped));
     expect(rt, recorded.is_err() || log.operands.len() == 5);
     log.set_unreachable();
     expect(rt, log.unreachable && log.has_changes(0));
@@ -74,7 +77,8 @@ fn an_attempt_records_each_change(rt: HostRuntime) {
     let mut attempt = Transaction::new(RollbackLogAllocations::new(rt.alloc()));
     attempt.begin(0);
     record_pending(&rt, &mut attempt);
-    let recorded: Result<(), NotDone> = attempt.record(ENTRY);
+    let popped = [Operand::of(I32)];
+    let recorded: Result<(), NotDone> = attempt.record(entry_of(&popped));
     expect(&rt, attempt.has_changes(0));
     let log = attempt.take();
     expect(&rt, !attempt.is_active());

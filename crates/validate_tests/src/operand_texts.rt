@@ -1,7 +1,10 @@
-//! The texts of operands, those of the constants of reference types among them.
+//! The texts of operands, those of the constants of reference types among them, and operands in eight bytes.
 
-use crate::expectations::{ample, expect_same};
-use wasmparser_validate::types::{AbstractHeapType, MaybeType, RefType, ValType};
+use crate::expectations::{ample, expect, expect_same};
+use std::mem::size_of;
+use wasmparser_validate::types::{
+    AbstractHeapType, LocalType, MaybeType, Operand, RefType, ValType,
+};
 
 /// What an operand prints. No clause says what a constant is.
 const OPERANDS: &[(MaybeType, &str)] = &[
@@ -28,4 +31,29 @@ fn texts_of_operands(rt: HostRuntime) {
         let printed = ample(&rt, format!(in rt.alloc(); "{operand}"));
         expect_same(&rt, printed.as_str(), *text);
     }
+}
+
+/// No clause says how many bytes an operand takes.
+#[test]
+fn operands_in_eight_bytes(rt: HostRuntime) {
+    expect_same(&rt, size_of::<Operand>(), 8);
+    for (ty, _) in OPERANDS {
+        let operand = Operand::of(*ty);
+        expect_same(&rt, operand.ty(), *ty);
+        expect_same(&rt, operand.is_bottom(), *ty == MaybeType::Bottom);
+    }
+}
+
+#[test]
+fn locals_in_eight_bytes(rt: HostRuntime) {
+    expect_same(&rt, size_of::<LocalType>(), 8);
+    let local = LocalType::new(ValType::I64);
+    expect_same(&rt, local.ty(), ValType::I64);
+    let operand = local.operand();
+    expect(&rt, operand.is_number(ValType::I64));
+    expect(&rt, !operand.is_number(ValType::I32));
+    let same = Operand::known(ValType::I64);
+    expect(&rt, operand.is_same_number(same));
+    let reference = Operand::known(ValType::FUNCREF);
+    expect(&rt, !reference.is_same_number(reference));
 }

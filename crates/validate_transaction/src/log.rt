@@ -9,14 +9,14 @@ use crate::pile::Pile;
 use std::alloc::Global;
 use std::marker::Model;
 use std::mem;
-use validate_types::{MaybeType, OutOfMemory, Refusal, Refused};
+use validate_types::{MaybeType, Operand, OutOfMemory, Refusal, Refused};
 use validate_visit::Frame;
 
 /// What an attempt changed.
 #[derive(Drop)]
 pub struct RollbackLog {
     /// The operands, the newest change on top: a push as None, and a pop as the operand that it took.
-    pub operands: Pile<Option<MaybeType>>,
+    pub operands: Pile<Option<Operand>>,
     /// The frames, the newest change on top: an opened one as None, and a closed one as it was.
     pub frames: Pile<Option<Frame>>,
     /// The indices of the locals that closed frames unset, in order.
@@ -44,7 +44,7 @@ impl Model for RollbackLog {
 /// Buffers for a log.
 #[derive(Drop)]
 pub struct RollbackLogAllocations {
-    operands: Pile<Option<MaybeType>>,
+    operands: Pile<Option<Operand>>,
     frames: Pile<Option<Frame>>,
     inits: Vec<u32>,
 }
@@ -147,7 +147,7 @@ impl RollbackLog {
             ≡ record self.old { operands = Some ty.now ∷ self.old.operands }) (λ _. self.new ≡ self.old) }
     {
         self.operands.take_room()?;
-        self.operands.put(Some(*ty));
+        self.operands.put(Some(Operand::of(*ty)));
         Ok(())
     }
 
@@ -223,7 +223,7 @@ pub struct Closed<'a> {
 #[derive(Clone, Copy)]
 pub struct Entry<'a> {
     /// The operands that are popped, the top last.
-    pub popped: &'a [MaybeType],
+    pub popped: &'a [Operand],
     /// The frame that is closed, if one is.
     pub closed: Option<Closed<'a>>,
     /// Whether a frame is opened.
@@ -248,7 +248,7 @@ fn append<A: Refused>(indices: &mut Vec<u32>, more: &[u32]) -> Result<(), A>
 }
 
 /// Records that these operands were popped, the last of the list first, where there is room.
-fn put_popped(trace: &mut Pile<Option<MaybeType>>, popped: &[MaybeType])
+fn put_popped(trace: &mut Pile<Option<Operand>>, popped: &[Operand])
     requires { length trace.old.items + length popped.now ≤ trace.old.room }
     ensures items { trace.new.items ≡ map Some popped.now ++ trace.old.items }
     ensures never_less { trace.old.room ≤ trace.new.room }
@@ -261,7 +261,7 @@ fn put_popped(trace: &mut Pile<Option<MaybeType>>, popped: &[MaybeType])
 }
 
 /// Records that so many operands were pushed, where there is room.
-fn put_pushed(trace: &mut Pile<Option<MaybeType>>, count: usize)
+fn put_pushed(trace: &mut Pile<Option<Operand>>, count: usize)
     requires { length trace.old.items + count ≤ trace.old.room }
     ensures { trace.new.items ≡ replicate count None ++ trace.old.items }
 {

@@ -24,7 +24,7 @@ loop-index-preserved c =
       longer = λ begin rising e.
           let so_far = v.longer begin rising e in
           let to : end_of begin runs + 1 ≡ c.args.from + i + 1 = omega (arith, e, k, ap length so_far.types, length-append (run_types begin old) (take i types)) in
-          let one = c.add_run.ensures.added begin 1 so_far.rising (omega arith) to in
+          let one = (rw c.new.ensures at c.add_run.ensures.added) begin 1 so_far.rising (omega arith) to in
           subst (λ ts. AreLongerRuns begin old c.add_run.new.runs.items ts) (sym (take_more types i I32 (omega arith))) (longer_more begin old runs c.add_run.new.runs.items (take i types) (get_or types i I32 ∷ []) so_far one);
       len = omega (arith, c.add_run.ensures.len, v.len);
       room = omega (arith, c.add_run.ensures.room, v.room);

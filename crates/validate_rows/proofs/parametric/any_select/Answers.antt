@@ -53,13 +53,13 @@ tested g c =
     (guard_some _ _ _ (sym (popped_next md I32 [] v) ∙ popped_dropped md (I32 ∷ []) v (fits_now md (I32 ∷ []) v true c.in_ok-find_operands.ensures.fit))).0
 
 -- both operands are there
-selects : (g : Over) (c : In_ok-lower g) (o : Option MaybeType) → select_result c.in_ok-lower.field-0.now c.in_ok-upper.field-0.now ≡ o → selected g (goal.at.In_ok-lower g c).Start ≡ option_map (λ x. body_pushed x (body_popped (body_popped (body_popped c.args.body.stacks.now.body)))) o
+selects : (g : Over) (c : In_ok-lower g) (o : Option MaybeType) → select_result c.in_ok-lower.lower c.in_ok-upper.upper ≡ o → selected g (goal.at.In_ok-lower g c).Start ≡ option_map (λ x. body_pushed x (body_popped (body_popped (body_popped c.args.body.stacks.now.body)))) o
 selects g c o e =
     let at = goal.at.In_ok-lower g c in
     let v = c.args.body.stacks.now.body in
     let u = body_popped v in
     let w = body_popped u in
-    both_found (md g at.Start) v c.requires.open_frame u (tested g at.In_ok-find_operands) refl w c.in_ok-upper.field-0.now (found_one v ∙ c.in_ok-upper.ensures.found) refl c.in_ok-lower.field-0.now o (found_two v ∙ c.in_ok-lower.ensures.found) e
+    both_found (md g at.Start) v c.requires.open_frame u (tested g at.In_ok-find_operands) refl w c.in_ok-upper.upper (found_one v ∙ c.in_ok-upper.ensures.found) refl c.in_ok-lower.lower o (found_two v ∙ c.in_ok-lower.ensures.found) e
 
 pub returns-in_err-find_operands : goal.returns-in_err-find_operands
 returns-in_err-find_operands g c =
@@ -81,7 +81,7 @@ returns-in_err-lower g c =
     let at = (goal.at.returns-in_err-lower g c).In_ok-find_operands in
     let v = c.args.body.stacks.now.body in
     let u = body_popped v in
-    let none = lower_missing (g.R.WasmModuleResources.context c.args.body.resources.now) v c.requires.open_frame u (tested g at) refl (body_popped u) c.in_ok-upper.field-0.now (found_one v ∙ c.in_ok-upper.ensures.found) refl (found_two v ∙ c.in_err-lower.ensures.missing) in
+    let none = lower_missing (g.R.WasmModuleResources.context c.args.body.resources.now) v c.requires.open_frame u (tested g at) refl (body_popped u) c.in_ok-upper.upper (found_one v ∙ c.in_ok-upper.ensures.found) refl (found_two v ∙ c.in_err-lower.ensures.missing) in
     unmoved _ _ _ _ _ _ (search rules) refl (search (rules, none))
 
 pub returns-in_err-ty : goal.returns-in_err-ty
@@ -100,9 +100,9 @@ returns g c =
     let t = c.in_ok-ty.ty in
     let u_valid = popped_valid m v c.requires.valid in
     let w_valid = popped_valid m u u_valid in
-    let upper = found_valid m u c.in_ok-upper.field-0.now u_valid (found_one v ∙ c.in_ok-upper.ensures.found) in
-    let lower = found_valid m w c.in_ok-lower.field-0.now w_valid (found_two v ∙ c.in_ok-lower.ensures.found) in
-    let pushed = selected_one c.in_ok-lower.field-0.now c.in_ok-upper.field-0.now t (IsValidOperand m) lower upper c.in_ok-ty.ensures.pushed in
+    let upper = found_valid m u c.in_ok-upper.upper u_valid (found_one v ∙ c.in_ok-upper.ensures.found) in
+    let lower = found_valid m w c.in_ok-lower.lower w_valid (found_two v ∙ c.in_ok-lower.ensures.found) in
+    let pushed = selected_one c.in_ok-lower.lower c.in_ok-upper.upper t (IsValidOperand m) lower upper c.in_ok-ty.ensures.pushed in
     let whole : body_dropped c.min.result v ≡ x = sym (dropped_within 3 c.min.result v (omega (arith, c.min.ensures, c.own_len-own.ensures))) ∙ (sym (dropped_next 2 v) ∙ ap body_popped (below_two v)) in
     let moved = subst (λ (y : BodyState). MatchResult c.replace.result (λ _. c.replace.new.self.body ≡ body_pushed t y) (λ _. c.replace.new.self ≡ c.args.body.stacks.now)) whole c.replace.ensures.exact in
     made_moves m _ _ c.args.body.stacks.now _ (body_pushed t x) (selects g at.In_ok-lower (Some t) c.in_ok-ty.ensures.pushed) (pushed_valid m t x pushed (popped_valid m w w_valid))

@@ -14,8 +14,8 @@ use Rattle.validate_rows.proofs.variables.any_local_set.Given.{Over}
 use Rattle.validate_rows.proofs.variables.any_local_set.Goals.{In_ok-ty}
 use Rattle.validate_rows.proofs.variables.any_local_set.Goals as goal
 
-good : (g : Over) (c : In_ok-ty g) → Valid (g.R.WasmModuleResources.context c.args.body.resources.now) c.in_ok-ty.field-0.now
-good g c = all_get (Valid (g.R.WasmModuleResources.context c.args.body.resources.now)) c.args.body.stacks.now.body.locals c.args.local_index c.in_ok-ty.field-0.now c.in_ok-ty.ensures.found c.requires.valid.locals_valid
+good : (g : Over) (c : In_ok-ty g) → Valid (g.R.WasmModuleResources.context c.args.body.resources.now) c.in_ok-ty.ty
+good g c = all_get (Valid (g.R.WasmModuleResources.context c.args.body.resources.now)) c.args.body.stacks.now.body.locals c.args.local_index c.in_ok-ty.ty c.in_ok-ty.ensures.found c.requires.valid.locals_valid
 
 pub returns-in_err-ty : goal.returns-in_err-ty
 returns-in_err-ty g c =
@@ -30,7 +30,7 @@ returns-then-is_uninit g c =
     let at = (goal.at.returns-then-is_uninit g c).In_ok-ty in
     let md = g.R.WasmModuleResources.context c.args.body.resources.now in
     let i = c.args.local_index in
-    takes_moves md _ _ c.args.body.stacks.now _ (c.in_ok-ty.field-0.now ∷ []) (body_set_then i []) (local_set_is md c.args.body.stacks.now.body i c.in_ok-ty.field-0.now c.in_ok-ty.ensures.found c.requires.open_frame) (set_then_valid md i [] tt) (set_then_kept md i []) c.requires.valid _ c.exchange_setting.ensures
+    takes_moves md _ _ c.args.body.stacks.now _ (c.in_ok-ty.ty ∷ []) (body_set_then i []) (local_set_is md c.args.body.stacks.now.body i c.in_ok-ty.ty c.in_ok-ty.ensures.found c.requires.open_frame) (set_then_valid md i [] tt) (set_then_kept md i []) c.requires.valid _ c.exchange_setting.ensures
 
 pub exchange_known_at_once-requires-clause-types : goal.exchange_known_at_once-requires-clause-types
 exchange_known_at_once-requires-clause-types g c = (good g (goal.at.exchange_known_at_once-requires-clause-types g c).In_ok-ty, tt)
@@ -39,7 +39,7 @@ pub returns-then-exchange_known_at_once : goal.returns-then-exchange_known_at_on
 returns-then-exchange_known_at_once g c =
     let md = g.R.WasmModuleResources.context c.args.body.resources.now in
     let v = c.args.body.stacks.now.body in
-    let ty = c.in_ok-ty.field-0.now in
+    let ty = c.in_ok-ty.ty in
     let set = not_false _ (sym c.is_uninit.ensures ∙ c.if-is_uninit.false) in
     let is = local_set_is md v c.args.local_index ty c.in_ok-ty.ensures.found c.requires.open_frame ∙ taken_set md (ty ∷ []) c.args.local_index [] v set in
     let exact = was_made _ c.exchange_known_at_once.result c.if-exchange_known_at_once.true c.exchange_known_at_once.ensures.exact in
@@ -53,7 +53,7 @@ pub returns : goal.returns
 returns g c =
     let md = g.R.WasmModuleResources.context c.args.body.resources.now in
     let v = c.args.body.stacks.now.body in
-    let ty = c.in_ok-ty.field-0.now in
+    let ty = c.in_ok-ty.ty in
     let set = not_false _ (sym c.is_uninit.ensures ∙ c.if-is_uninit.false) in
     let is = local_set_is md v c.args.local_index ty c.in_ok-ty.ensures.found c.requires.open_frame ∙ taken_set md (ty ∷ []) c.args.local_index [] v set in
     let same = was_not_made (option_map (body_pushed_each []) (body_popped_each md (ty ∷ []) v) ≡ Some c.exchange_known_at_once.new.self.body) c.exchange_known_at_once.result c.if-exchange_known_at_once.false c.exchange_known_at_once.ensures.exact in

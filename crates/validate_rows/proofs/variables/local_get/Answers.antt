@@ -17,14 +17,14 @@ pub returns-in_err-find_set : goal.returns-in_err-find_set
 returns-in_err-find_set g c =
     let md = g.R.WasmModuleResources.context c.args.body.resources.now in
     let v = c.args.body.stacks.now.body in
-    let t = c.in_ok-ty.field-0.now in
+    let t = c.in_ok-ty.ty in
     let none = local_get_is md v c.args.local_index t c.in_ok-ty.ensures.found c.requires.open_frame ∙ ap (λ b. guard b (Some (body_pushed_each (t ∷ []) v))) c.in_err-find_set.ensures.unset in
     unmoved _ _ _ _ _ _ (search rules) refl (search (rules, none))
 
-pub constant-requires-clause-pushed : goal.constant-requires-clause-pushed
-constant-requires-clause-pushed g c = all_get (Valid (g.R.WasmModuleResources.context c.args.body.resources.now)) c.args.body.stacks.now.body.locals c.args.local_index c.in_ok-ty.field-0.now c.in_ok-ty.ensures.found c.requires.valid.locals_valid
+pub local_constant-requires-clause-pushed : goal.local_constant-requires-clause-pushed
+local_constant-requires-clause-pushed g c = all_get (Valid (g.R.WasmModuleResources.context c.args.body.resources.now)) c.args.body.stacks.now.body.locals c.args.local_index c.in_ok-ty.ty c.in_ok-ty.ensures.found c.requires.valid.locals_valid
 
 pub returns : goal.returns
 returns g c =
     let md = g.R.WasmModuleResources.context c.args.body.resources.now in
-    moves_as md _ _ _ _ _ (get_is md c.args.body.stacks.now.body c.args.local_index c.in_ok-ty.field-0.now c.in_ok-ty.ensures.found c.in_ok-find_set.ensures.set c.requires.open_frame) _ c.constant.ensures
+    moves_as md _ _ _ _ _ (get_is md c.args.body.stacks.now.body c.args.local_index c.in_ok-ty.ty c.in_ok-ty.ensures.found c.in_ok-find_set.ensures.set c.requires.open_frame) _ c.local_constant.ensures

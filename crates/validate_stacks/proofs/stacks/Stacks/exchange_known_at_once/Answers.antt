@@ -32,5 +32,5 @@ returns-in-Some-clause-exact g c =
     let fit = c.has_known.ensures c.if-not-has_known.false in
     let least : k ≡ min k (length (innermost_operands v.present.frames)) = omega (arith, own) in
     let back : k - 1 + 1 ≡ k = omega (arith, c.if-count-eq0.false) in
-    let left = c.replace_operand.ensures.replaced ∙ ap (λ u. body_pushed (Known c.in-Some.ty) (body_popped u)) c.drop_operands.ensures.dropped ∙ ap (body_pushed (Known c.in-Some.ty)) (dropped_next (k - 1) v ∙ ap (λ j. body_dropped j v) back) in
+    let left = (rw c.known.ensures at c.replace_operand.ensures.replaced) ∙ ap (λ u. body_pushed (Known c.in-Some.ty) (body_popped u)) c.drop_operands.ensures.dropped ∙ ap (body_pushed (Known c.in-Some.ty)) (dropped_next (k - 1) v ∙ ap (λ j. body_dropped j v) back) in
     exchanged md c.args.expected.now v fit k least c.args.pushed _ (left ∙ ap (λ p. body_pushed_each (pushed_list p) (body_dropped k v)) (sym c.in-Some.is))

@@ -1,6 +1,6 @@
 use Rattle.std.proofs.Common.{arith, replicate, ◌≡◌, true, Some, ◌-◌, ◌<◌, get_or, sym, ap, ◌∙◌}
 use Rattle.std.proofs.lemmas.List.{length-replicate, get_or-replicate}
-use Rattle.validation_rules.specs.Fits.{Bottom, Known}
+use Rattle.validation_rules.specs.Fits.{Known}
 use Rattle.validate_stacks.specs.Pops.{may_pop}
 use Rattle.validate_stacks.specs.State.{body_context}
 use Rattle.validate_stacks.specs.Steps.{found_after_pops_in_body}
@@ -8,7 +8,7 @@ use Rattle.validate_stacks.proofs.AtOnce.{known_fits}
 use Rattle.validate_stacks.proofs.PopRuns.{run_operand_found}
 use Rattle.validate_stacks.proofs.MatchedOperands.{counted_starts, counted_goes_on, counted_stops}
 use Rattle.validate_stacks.proofs.stacks.Stacks.find_own_run.Goals as goal
-use Rattle.validate_stacks.proofs.stacks.Stacks.find_own_run.Goals.{else-not-is_known_number-via-then-not-is_known_number+else-not-is_element_fitting, else-not-is_known_number-via-else-not-is_known_number}
+use Rattle.validate_stacks.proofs.stacks.Stacks.find_own_run.Goals.{else-not-is_number-via-then-not-is_number+else-not-is_element_fitting, else-not-is_number-via-else-not-is_number}
 
 pub loop-left-init : goal.loop-left-init
 loop-left-init g c =
@@ -23,10 +23,11 @@ loop-left-preserved g c =
     let t = c.args.elem in
     let here : n - 1 < c.args.count = omega (arith, c.loop-left-test.true, c.loop-left.invariant.within) in
     let passed : may_pop (body_context md v) (found_after_pops_in_body (c.args.count - 1 - (n - 1)) v) (Some t) ≡ true =
-    elim c.else-not-is_known_number.branch [
-      | else-not-is_known_number-via-then-not-is_known_number+else-not-is_element_fitting w ↦ sym w.is_element_fitting.ensures ∙ w.if-not-is_element_fitting.false
-      | else-not-is_known_number-via-else-not-is_known_number w ↦
-          let there = run_operand_found v c.args.count (n - 1) (Known t) Bottom c.requires.own here (ap (λ xs. get_or xs (n - 1) Bottom) (sym c.top_operands-operands.ensures) ∙ c.is_known_number.ensures w.if-not-is_known_number.false) in
+    elim c.else-not-is_number.branch [
+      | else-not-is_number-via-then-not-is_number+else-not-is_element_fitting w ↦ sym w.is_element_fitting.ensures ∙ w.if-not-is_element_fitting.false
+      | else-not-is_number-via-else-not-is_number w ↦
+          let found = c.index-operands-left.result in
+          let there = run_operand_found v c.args.count (n - 1) (Known t) found c.requires.own here (ap (λ xs. get_or xs (n - 1) found) (sym c.top_operands-operands.ensures) ∙ sym c.index-operands-left.is ∙ c.is_number.ensures w.if-not-is_number.false) in
           known_fits md (g.met.R.WasmModuleResources.lawful c.args.resources.now) v _ t c.requires.element there
     ] in
     record {

@@ -1,4 +1,4 @@
-use Rattle.std.proofs.Common.{length, sym, ap, ◌∙◌, arith}
+use Rattle.std.proofs.Common.{Some, length, sym, ap, ◌∙◌, arith}
 use Rattle.std.specs.Option.{option_copied}
 use Rattle.validate_stacks.specs.Attempts.{body_of}
 use Rattle.validate_stacks.specs.Steps.{found_after_pops_in_body}
@@ -11,7 +11,7 @@ pub returns-in_err-frame : goal.returns-in_err-frame
 returns-in_err-frame c =
     let s = flat_of c.self.inside in
     let there = sym c.get.ensures ∙ ap option_copied c.in_err-frame.was in
-    ap option_copied c.from_residual.ensures
+    c.from_residual.ensures
     ∙ (none_found s.frames s.operands s.order c.args.depth there
     ∙ ap (found_after_pops_in_body c.args.depth) (ap body_of c.self.view_is))
 
@@ -27,7 +27,8 @@ pub returns-then-depth-len : goal.returns-then-depth-len
 returns-then-depth-len c =
     let s = flat_of c.self.inside in
     let there = sym c.get.ensures ∙ ap option_copied c.in_ok-frame.was in
-    c.get-then-depth-len.ensures
+    c.copied.ensures
+    ∙ c.get-then-depth-len.ensures
     ∙ (own_found s.frames c.in_ok-frame.frame.now s.operands s.order c.args.depth there
     (omega (arith, c.len.ensures.value, c.if-depth-len.true))
     ∙ ap (found_after_pops_in_body c.args.depth) (ap body_of c.self.view_is))
@@ -39,7 +40,7 @@ returns-then-frame c =
     let e =
     below_found s.frames c.in_ok-frame.frame.now s.operands s.order c.args.depth there
     (omega (arith, c.len.ensures.value, c.if-depth-len.false)) in
-    rw c.if-frame.true at e ∙ ap (found_after_pops_in_body c.args.depth) (ap body_of c.self.view_is)
+    ap Some c.of.ensures ∙ rw c.if-frame.true at e ∙ ap (found_after_pops_in_body c.args.depth) (ap body_of c.self.view_is)
 
 pub returns-else-frame : goal.returns-else-frame
 returns-else-frame c =

@@ -224,8 +224,37 @@ impl<'a> BinaryReader<'a> {
         ensures refused { OnErr result (unsigned 32 self.old.left ≡ None) }
         ensures covered { IfErr result IsNoVector }
     {
+        if let Some(value) = self.read_two(32) {
+            return Ok(value as u32);
+        }
         let value = self.read_unsigned(32)?;
         Ok(value as u32)
+    }
+
+    /// The fast lane of [`BinaryReader::read_var_u32`] for a number that is two bytes or five. None, with nothing read,
+    /// where it isn't.
+    #[inline(always)]
+    pub fn read_long_u32(&mut self) -> Option<u32>
+        ensures read { IfSome result (λ value. unsigned 32 self.old.left ≡ Some (value, self.new.left)) }
+        ensures kept { result ≡ None → self.new ≡ self.old }
+    {
+        let value = self.read_long_number(32)?;
+        Some(value as u32)
+    }
+
+    /// The same of a number of so many bits.
+    #[inline(always)]
+    pub fn read_long_number(&mut self, bits: u32) -> Option<u64>
+        requires some { 28 < bits }
+        requires within { bits ≤ 64 }
+        ensures below { IfSome result (λ value. value < 2 ^ bits) }
+        ensures read { IfSome result (λ value. unsigned bits self.old.left ≡ Some (value, self.new.left)) }
+        ensures kept { result ≡ None → self.new ≡ self.old }
+    {
+        if let Some(value) = self.read_two(bits) {
+            return Some(value);
+        }
+        self.read_five(bits)
     }
 
     /// Reads a number below 2^64 (u64), as [`BinaryReader::read_var_u32`].
@@ -234,6 +263,9 @@ impl<'a> BinaryReader<'a> {
         ensures refused { OnErr result (unsigned 64 self.old.left ≡ None) }
         ensures covered { IfErr result IsNoVector }
     {
+        if let Some(value) = self.read_two(64) {
+            return Ok(value);
+        }
         self.read_unsigned(64)
     }
 
@@ -309,6 +341,72 @@ impl<'a> BinaryReader<'a> {
     /// Reads a number of so many bits, of any number of bytes.
     #[inline(never)]
     fn read_long_unsigned(&mut self, bits: u32) -> Result<u64, ReadError>
+        requires some { 0 < bits }
+        requires within { bits ≤ 64 }
+        ensures below { IfOk result (λ value. value < 2 ^ bits) }
+        ensures read { IfOk result (λ value. unsigned bits self.old.left ≡ Some (value, self.new.left)) }
+        ensures refused { OnErr result (unsigned bits self.old.left ≡ None) }
+        ensures covered { IfErr result IsNoVector }
+    {
+        if bits > 28 {
+            if let Some(value) = self.read_five(bits) {
+                return Ok(value);
+            }
+        }
+        self.read_any_unsigned(bits)
+    }
+
+    /// The fast lane of [`BinaryReader::read_var_u64`] for a number of so many bits that is two bytes, as most long
+    /// numbers are. None, with nothing read, where it isn't.
+    #[inline(always)]
+    fn read_two(&mut self, bits: u32) -> Option<u64>
+        requires some { 7 < bits }
+        requires within { bits ≤ 64 }
+        ensures below { IfSome result (λ value. value < 2 ^ bits) }
+        ensures read { IfSome result (λ value. unsigned bits self.old.left ≡ Some (value, self.new.left)) }
+        ensures kept { result ≡ None → self.new ≡ self.old }
+    {
+        let (low, last) = self.next_two()?;
+        if low < 0x80 || last >= 0x80 || !has_bits(last, bits - 7) {
+            return None;
+        }
+        *self = self.behind(2);
+        Some(raised(u64::from(last), bits - 7, u64::from(low - 0x80), 7))
+    }
+
+    /// The same of one that is five bytes, the room that a compiler leaves for a linker.
+    #[inline(always)]
+    fn read_five(&mut self, bits: u32) -> Option<u64>
+        requires some { 28 < bits }
+        requires within { bits ≤ 64 }
+        ensures below { IfSome result (λ value. value < 2 ^ bits) }
+        ensures read { IfSome result (λ value. unsigned bits self.old.left ≡ Some (value, self.new.left)) }
+        ensures kept { result ≡ None → self.new ≡ self.old }
+    {
+        let (first, second) = self.next_two()?;
+        if first < 0x80 || second < 0x80 {
+            return None;
+        }
+        let behind = self.behind(2);
+        let (third, fourth) = behind.next_two()?;
+        if third < 0x80 || fourth < 0x80 {
+            return None;
+        }
+        let mut behind = behind.behind(2);
+        let last = behind.read_last()?;
+        if !has_bits(last, bits - 28) {
+            return None;
+        }
+        *self = behind;
+        let high = raised(u64::from(last), bits - 28, u64::from(fourth - 0x80), 7);
+        let high = raised(high, bits - 21, u64::from(third - 0x80), 7);
+        let high = raised(high, bits - 14, u64::from(second - 0x80), 7);
+        Some(raised(high, bits - 7, u64::from(first - 0x80), 7))
+    }
+
+    /// Reads a number of so many bits, byte by byte.
+    #[inline(never)]
+    fn read_any_unsigned(&mut self, bits: u32) -> Result<u64, ReadError>
         requires some { 0 < bits }
         requires within { bits ≤ 64 }
         ensures below { IfOk result (λ value. value < 2 ^ bits) }

@@ -1,5 +1,5 @@
 -- What is told by the first byte is what the bytes are.
-use Rattle.std.proofs.Common.{◌≡◌, ℕ, ◌+◌, List, [], ◌∷◌, Bool, true, false, Option, Some, None, suc, zero, ◌&&◌, ◌||◌, refl, length, sym, ap, subst, ◌∙◌, get_or, arith, nat_eq, nat_lt, ◌<◌, ◌≤◌, ◌-◌, ◌^◌, drop, if◌then◌else◌, ℤ, pos, ◌-ℤ◌, ◌⊎◌, inl, inr, option_map}
+use Rattle.std.proofs.Common.{◌≡◌, ℕ, ◌+◌, ◌*◌, List, [], ◌∷◌, Bool, true, false, Option, Some, None, suc, zero, ◌&&◌, ◌||◌, refl, length, sym, ap, subst, ◌∙◌, get_or, arith, nat_eq, nat_lt, ◌<◌, ◌≤◌, ◌-◌, ◌^◌, drop, if◌then◌else◌, ℤ, pos, ◌-ℤ◌, ◌⊎◌, inl, inr, option_map}
 use borrow.Author.Tests.{clash}
 use Rattle.std.proofs.lemmas.Bool.{and_parts, eqb-true, ltb-true, lt-ltb, le-ltb, cases_lt}
 use Rattle.binary_operators.specs.Codes.{at, natural, plain_ops, index_ops, block_ops, access_ops}
@@ -7,12 +7,12 @@ use Rattle.binary_operators.specs.Immediates.{block_type, memarg, in_memory, in_
 use Rattle.binary_operators.specs.Integers.{unsigned, signed, biased, last_biased, with_low, with_rest, without_bias}
 use Rattle.binary_operators.specs.Unplaced.{unplaced}
 use Rattle.binary_operators.specs.Forms.{from, forms}
-use Rattle.binary_operators.specs.Instructions.{operator, operator_of, index_op, block_op, access_op, constant_i32}
+use Rattle.binary_operators.specs.Instructions.{operator, operator_of, index_op, block_op, access_op, constant_i32, constant_i64}
 use Rattle.binary_operators.specs.Numbers.{numeric_ops}
 use Rattle.binary_operators.specs.Unread.{Unread}
 use Rattle.binary_operators.specs.Values.{◌>>=◌}
 use Rattle.binary_operators.specs.declared.forms.Form.{Form}
-use Rattle.binary_operators.specs.declared.forms.Form.TheVariants.{Numeric as OfNumeric, Access as OfAccess}
+use Rattle.binary_operators.specs.declared.forms.Form.TheVariants.{Numeric as OfNumeric, Access as OfAccess, Index as OfIndex}
 use Rattle.binary_operators.specs.declared.types.CanonicalTypes.{CanonicalTypes}
 use Rattle.validate_visit.specs.Order.{is_part_closer, nesting}
 use Rattle.validate_visit.specs.declared.memory.MemArg.{MemArg}
@@ -23,20 +23,22 @@ use Rattle.validate_visit.specs.declared.numbers.Sign.TheVariants.{Signed, Unsig
 use Rattle.validate_visit.specs.declared.op.MemoryOp.{MemoryOp}
 use Rattle.validate_visit.specs.declared.op.MemoryOp.TheVariants.{Load, LoadPacked, Store, StorePacked}
 use Rattle.validate_visit.specs.declared.numbers.IntegerType.TheVariants.{I32 as W32, I64 as W64}
+use Rattle.validate_visit.specs.declared.numbers.FloatType.TheVariants.{F32 as R32, F64 as R64}
+use Rattle.validate_visit.specs.declared.numeric.FloatBinaryOp.TheVariants.{Add as AddF}
 use Rattle.validate_visit.specs.declared.numeric.IntegerBinaryOp.TheVariants.{Add}
 use Rattle.validate_visit.specs.declared.numeric.IntegerComparisonOp.TheVariants.{Eq}
 use Rattle.validate_visit.specs.declared.op.ControlOp.{ControlOp}
 use Rattle.validate_visit.specs.declared.op.ControlOp.TheVariants.{Nop as NopOp, End as EndOp, Return as ReturnOp, Drop as DropOp, Select as SelectOp, Br as BrOp, BrIf as BrIfOp, Call as CallOp, LocalGet as LocalGetOp, LocalSet as LocalSetOp, LocalTee as LocalTeeOp, GlobalGet as GlobalGetOp, GlobalSet as GlobalSetOp, Block as BlockOp, Loop as LoopOp, If as IfOp}
 use Rattle.validate_visit.specs.declared.op.NumericOp.{NumericOp}
-use Rattle.validate_visit.specs.declared.op.NumericOp.TheVariants.{I32Const, Eqz, IntegerBinary, IntegerComparison}
+use Rattle.validate_visit.specs.declared.op.NumericOp.TheVariants.{I32Const, I64Const, Eqz, IntegerBinary, IntegerComparison, FloatBinary}
 use Rattle.validate_visit.specs.declared.op.Op.{Op}
 use Rattle.validate_visit.specs.declared.op.Op.TheVariants.{Numeric, Control, Memory}
 use Rattle.validate_visit.specs.declared.frame.BlockType.TheVariants.{Empty}
 use Rattle.validation_rules.specs.Context.{Context}
 use Rattle.validation_rules.specs.Operators.{operator as row_of}
 use Rattle.module_check.specs.FirstBytes.{kinds, near, BeginAs, BeginLike, BeginAccess, IsNear}
-use Rattle.module_check.specs.declared.common.Common.{Common}
-use Rattle.module_check.specs.declared.common.Common.TheVariants.{Rare, Nop, Block, Loop, If, End, Br, BrIf, Return, Call, Drop, Select, LocalGet, LocalSet, LocalTee, GlobalGet, GlobalSet, Constant32, Test32, Compare32, Compare64, Binary32, Binary64, Load32, Load64, LoadF32, LoadF64, Store32, Store64, StoreF32, StoreF64}
+use Rattle.module_check.specs.declared.first_bytes.Common.{Common}
+use Rattle.module_check.specs.declared.first_bytes.Common.TheVariants.{Rare, Nop, Block, Loop, If, End, Br, BrIf, Return, Call, Drop, Select, LocalGet, LocalSet, LocalTee, GlobalGet, GlobalSet, Constant32, Constant64, Test32, Compare32, Compare64, Binary32, Binary64, BinaryF32, BinaryF64, Load32, Load64, LoadF32, LoadF64, Store32, Store64, StoreF32, StoreF64}
 
 -- whether a byte of this form, with this operator on numbers, is of the kind
 abbrev pub is_test32 : Option Form → Option NumericOp → Bool
@@ -58,6 +60,14 @@ is_binary32 _ _ = false
 abbrev pub is_binary64 : Option Form → Option NumericOp → Bool
 is_binary64 (Some OfNumeric) (Some (IntegerBinary W64 _)) = true
 is_binary64 _ _ = false
+
+abbrev pub is_binary_f32 : Option Form → Option NumericOp → Bool
+is_binary_f32 (Some OfNumeric) (Some (FloatBinary R32 _)) = true
+is_binary_f32 _ _ = false
+
+abbrev pub is_binary_f64 : Option Form → Option NumericOp → Bool
+is_binary_f64 (Some OfNumeric) (Some (FloatBinary R64 _)) = true
+is_binary_f64 _ _ = false
 
 -- the codes of loads and stores of each type, with their natural alignments
 abbrev load32_codes : List (ℕ × ℕ)
@@ -84,6 +94,8 @@ is_common code Compare32 = is_compare32 (from 0 forms code) (from 0x45 numeric_o
 is_common code Compare64 = is_compare64 (from 0 forms code) (from 0x45 numeric_ops code)
 is_common code Binary32 = is_binary32 (from 0 forms code) (from 0x45 numeric_ops code)
 is_common code Binary64 = is_binary64 (from 0 forms code) (from 0x45 numeric_ops code)
+is_common code BinaryF32 = is_binary_f32 (from 0 forms code) (from 0x45 numeric_ops code)
+is_common code BinaryF64 = is_binary_f64 (from 0 forms code) (from 0x45 numeric_ops code)
 is_common code (Load32 n) = is_among code n load32_codes
 is_common code (Load64 n) = is_among code n load64_codes
 is_common code (LoadF32 n) = is_among code n ((0x2a, 2) ∷ [])
@@ -109,6 +121,7 @@ is_common code LocalTee = nat_eq code 0x22
 is_common code GlobalGet = nat_eq code 0x23
 is_common code GlobalSet = nat_eq code 0x24
 is_common code Constant32 = nat_eq code 0x41
+is_common code Constant64 = nat_eq code 0x42
 
 abbrev pub are_common : ℕ → List Common → Bool
 are_common n [] = true
@@ -178,45 +191,80 @@ binary64_of code rest (Some OfNumeric) (Some (IntegerBinary W64 o)) e f h = reco
 }
 binary64_of code rest form op e f h = absurd (clash h)
 
+binary_f32_of : (code : ℕ) (rest : List ℕ) (form : Option Form) (op : Option NumericOp) → from 0 forms code ≡ form → from 0x45 numeric_ops code ≡ op → is_binary_f32 form op ≡ true → BeginLike (code ∷ rest) (Numeric (FloatBinary R32 AddF)) rest
+binary_f32_of code rest (Some OfNumeric) (Some (FloatBinary R32 o)) e f h = record {
+  actual = Numeric (FloatBinary R32 o);
+  is_read = λ types. numeric_read types code rest (FloatBinary R32 o) e f;
+  same_row = λ cx. refl;
+}
+binary_f32_of code rest form op e f h = absurd (clash h)
+
+binary_f64_of : (code : ℕ) (rest : List ℕ) (form : Option Form) (op : Option NumericOp) → from 0 forms code ≡ form → from 0x45 numeric_ops code ≡ op → is_binary_f64 form op ≡ true → BeginLike (code ∷ rest) (Numeric (FloatBinary R64 AddF)) rest
+binary_f64_of code rest (Some OfNumeric) (Some (FloatBinary R64 o)) e f h = record {
+  actual = Numeric (FloatBinary R64 o);
+  is_read = λ types. numeric_read types code rest (FloatBinary R64 o) e f;
+  same_row = λ cx. refl;
+}
+binary_f64_of code rest form op e f h = absurd (clash h)
+
 small_unsigned : (bits i : ℕ) (bs : List ℕ) → i < 128 → i < 2 ^ bits → unsigned bits (i ∷ bs) ≡ Some (i, bs)
 small_unsigned bits i bs l fits =
     ap (λ t. if t then (if nat_lt i (2 ^ bits) then Some (i, bs) else None) else (if nat_lt 7 bits then with_low (i - 128) (unsigned (bits - 7) bs) else None)) (lt-ltb i 128 l)
     ∙ ap (λ t. if t then Some (i, bs) else None) (lt-ltb i (2 ^ bits) fits)
 
-small_last : (i : ℕ) → (v : ℕ) × (last_biased 32 i ≡ Some v)
-small_last i = by (cases_lt i 64)
+pub one_byte_read : (i : ℕ) (bs : List ℕ) → i < 128 → unsigned 64 (i ∷ bs) ≡ Some (i, bs)
+one_byte_read i bs l = small_unsigned 64 i bs l (omega (arith, l))
+
+small_last : (bits i : ℕ) → 64 ≤ 2 ^ (bits - 1) → (v : ℕ) × (last_biased bits i ≡ Some v)
+small_last bits i wide = by (cases_lt i 64)
   where
-    by : (i < 64) ⊎ (64 ≤ i) → (v : ℕ) × (last_biased 32 i ≡ Some v)
+    half : ℕ
+    half = 2 ^ (bits - 1)
+
+    by : (i < 64) ⊎ (64 ≤ i) → (v : ℕ) × (last_biased bits i ≡ Some v)
     by (inl l) =
-        let fits : i < 2 ^ 31 = omega (arith, l) in (
-          i + 2 ^ 31,
-          ap (λ t. if t then (if nat_lt i (2 ^ 31) then Some (i + 2 ^ 31) else None) else (if nat_lt (i + 2 ^ 31) 128 then None else Some (i + 2 ^ 31 - 128))) (lt-ltb i 64 l)
-              ∙ ap (λ t. if t then Some (i + 2 ^ 31) else None) (lt-ltb i (2 ^ 31) fits),
+        let fits : i < half = omega (arith, l, wide) in (
+          i + half,
+          ap (λ t. if t then (if nat_lt i half then Some (i + half) else None) else (if nat_lt (i + half) 128 then None else Some (i + half - 128))) (lt-ltb i 64 l)
+              ∙ ap (λ t. if t then Some (i + half) else None) (lt-ltb i half fits),
         )
     by (inr m) =
-        let fits : 128 ≤ i + 2 ^ 31 = omega (arith, m) in (
-          i + 2 ^ 31 - 128,
-          ap (λ t. if t then (if nat_lt i (2 ^ 31) then Some (i + 2 ^ 31) else None) else (if nat_lt (i + 2 ^ 31) 128 then None else Some (i + 2 ^ 31 - 128))) (le-ltb i 64 m)
-              ∙ ap (λ t. if t then None else Some (i + 2 ^ 31 - 128)) (le-ltb (i + 2 ^ 31) 128 fits),
+        let fits : 128 ≤ i + half = omega (arith, m, wide) in (
+          i + half - 128,
+          ap (λ t. if t then (if nat_lt i half then Some (i + half) else None) else (if nat_lt (i + half) 128 then None else Some (i + half - 128))) (le-ltb i 64 m)
+              ∙ ap (λ t. if t then None else Some (i + half - 128)) (le-ltb (i + half) 128 fits),
         )
 
-small_signed : (i : ℕ) (bs : List ℕ) → i < 128 → (n : ℤ) × (signed 32 (i ∷ bs) ≡ Some (n, bs))
-small_signed i bs l =
-    let last = small_last i in (
-      pos last.0 -ℤ pos (2 ^ 31),
-      ap (λ t. without_bias 32 (if t then with_rest bs (last_biased 32 i) else (if nat_lt 7 32 then with_low (i - 128) (biased (32 - 7) bs) else None))) (lt-ltb i 128 l)
-          ∙ ap (λ v. without_bias 32 (with_rest bs v)) last.1,
+-- a number of one byte, and one of two
+small_biased : (bits i : ℕ) (bs : List ℕ) → 64 ≤ 2 ^ (bits - 1) → i < 128 → (v : ℕ) × (biased bits (i ∷ bs) ≡ Some (v, bs))
+small_biased bits i bs wide l =
+    let last = small_last bits i wide in (
+      last.0,
+      ap (λ t. if t then with_rest bs (last_biased bits i) else (if nat_lt 7 bits then with_low (i - 128) (biased (bits - 7) bs) else None)) (lt-ltb i 128 l)
+          ∙ ap (with_rest bs) last.1,
     )
 
-near_read : (align offset : ℕ) (bs : List ℕ) → align < 64 → offset < 128 → memarg (align ∷ offset ∷ bs) ≡ Some (near 0 align offset, bs)
+two_biased : (bits i j : ℕ) (bs : List ℕ) → 7 < bits → 64 ≤ 2 ^ (bits - 7 - 1) → 128 ≤ i → j < 128 → (v : ℕ) × (biased bits (i ∷ j ∷ bs) ≡ Some (v, bs))
+two_biased bits i j bs more wide long short =
+    let last = small_biased (bits - 7) j bs wide short in (
+      last.0 * 128 + (i - 128),
+      ap (λ t. if t then with_rest (j ∷ bs) (last_biased bits i) else (if nat_lt 7 bits then with_low (i - 128) (biased (bits - 7) (j ∷ bs)) else None)) (le-ltb i 128 long)
+          ∙ ap (λ t. if t then with_low (i - 128) (biased (bits - 7) (j ∷ bs)) else None) (lt-ltb 7 bits more)
+          ∙ ap (with_low (i - 128)) last.1,
+    )
+
+-- the same as an integer
+as_signed : (bits : ℕ) (bytes bs : List ℕ) → (v : ℕ) × (biased bits bytes ≡ Some (v, bs)) → (n : ℤ) × (signed bits bytes ≡ Some (n, bs))
+as_signed bits bytes bs b = (pos b.0 -ℤ pos (2 ^ (bits - 1)), ap (without_bias bits) b.1)
+
+near_read : (align offset : ℕ) (rest bs : List ℕ) → align < 64 → unsigned 64 rest ≡ Some (offset, bs) → memarg (align ∷ rest) ≡ Some (near 0 align offset, bs)
 unfolding memarg
-near_read align offset bs a o =
+near_read align offset rest bs a o =
     let below : align < 128 = omega (arith, a) in
     let fits : align < 2 ^ 32 = omega (arith, a) in
-    let fits_too : offset < 2 ^ 64 = omega (arith, o) in
-    ap (λ (r : Option (ℕ × List ℕ)). r >>= (λ (flags : ℕ × List ℕ). if nat_lt flags.0 0x40 then in_memory flags.0 0 flags.1 else (if nat_lt flags.0 0x80 then in_indexed_memory (flags.0 - 0x40) flags.1 else None))) (small_unsigned 32 align (offset ∷ bs) below fits)
-    ∙ ap (λ t. if t then in_memory align 0 (offset ∷ bs) else (if nat_lt align 0x80 then in_indexed_memory (align - 0x40) (offset ∷ bs) else None)) (lt-ltb align 64 a)
-    ∙ ap (λ (r : Option (ℕ × List ℕ)). r >>= (λ (n : ℕ × List ℕ). Some (near 0 align n.0, n.1))) (small_unsigned 64 offset bs o fits_too)
+    ap (λ (r : Option (ℕ × List ℕ)). r >>= (λ (flags : ℕ × List ℕ). if nat_lt flags.0 0x40 then in_memory flags.0 0 flags.1 else (if nat_lt flags.0 0x80 then in_indexed_memory (flags.0 - 0x40) flags.1 else None))) (small_unsigned 32 align rest below fits)
+    ∙ ap (λ t. if t then in_memory align 0 rest else (if nat_lt align 0x80 then in_indexed_memory (align - 0x40) rest else None)) (lt-ltb align 64 a)
+    ∙ ap (λ (r : Option (ℕ × List ℕ)). r >>= (λ (n : ℕ × List ℕ). Some (near 0 align n.0, n.1))) o
 
 abbrev before : List ℕ → Op → Option (Op × List ℕ)
 before bs op = Some (op, bs)
@@ -225,25 +273,25 @@ made : (make : Option (MemArg → Op)) (m : MemArg) (op : Op) (bs : List ℕ) �
 made None m op bs h = cc
 made (Some f) m op bs h = ap (λ (o : Option Op). o >>= before bs) h
 
-access_read : (code align offset : ℕ) (op : Op) → from 0 forms code ≡ Some OfAccess → align < 64 → offset < 128 → option_map (λ (f : MemArg → Op). f (near 0 align offset)) (at code access_ops) ≡ Some op → (types : CanonicalTypes) (bs : List ℕ) → operator types (code ∷ align ∷ offset ∷ bs) ≡ Some (op, bs)
+access_read : (code align offset : ℕ) (op : Op) (rest bs : List ℕ) → from 0 forms code ≡ Some OfAccess → align < 64 → unsigned 64 rest ≡ Some (offset, bs) → option_map (λ (f : MemArg → Op). f (near 0 align offset)) (at code access_ops) ≡ Some op → (types : CanonicalTypes) → operator types (code ∷ align ∷ rest) ≡ Some (op, bs)
 unfolding operator access_op
-access_read code align offset op e a o h types bs =
-    ap (λ form. operator_of form code types (align ∷ offset ∷ bs)) e
-    ∙ ap (λ (r : Option (MemArg × List ℕ)). r >>= (λ (m : MemArg × List ℕ). at code access_ops >>= (λ (f : MemArg → Op). before m.1 (f m.0)))) (near_read align offset bs a o)
+access_read code align offset op rest bs e a o h types =
+    ap (λ form. operator_of form code types (align ∷ rest)) e
+    ∙ ap (λ (r : Option (MemArg × List ℕ)). r >>= (λ (m : MemArg × List ℕ). at code access_ops >>= (λ (f : MemArg → Op). before m.1 (f m.0)))) (near_read align offset rest bs a o)
     ∙ made (at code access_ops) (near 0 align offset) op bs h
 
 -- with a near place behind this code, it is an operator whose row is that of this one
 abbrev IsLike : (MemArg → MemoryOp) → ℕ × ℕ → Type 0
-IsLike op c = (align offset : ℕ) (behind : List ℕ) → align < 64 → offset < 128 → BeginLike (c.0 ∷ align ∷ offset ∷ behind) (Memory (op (near c.1 align offset))) behind
+IsLike op c = (align offset : ℕ) (rest behind : List ℕ) → align < 64 → unsigned 64 rest ≡ Some (offset, behind) → BeginLike (c.0 ∷ align ∷ rest) (Memory (op (near c.1 align offset))) behind
 
 abbrev AreLike : (MemArg → MemoryOp) → List (ℕ × ℕ) → Type 0
 AreLike op [] = Unit {0}
 AreLike op (c ∷ cs) = IsLike op c × AreLike op cs
 
 like_of : (code natural : ℕ) (op actual : MemArg → MemoryOp) → from 0 forms code ≡ Some OfAccess → ((m : MemArg) → option_map (λ (f : MemArg → Op). f m) (at code access_ops) ≡ Some (Memory (actual m))) → ((m : MemArg) (cx : Context) → row_of cx (Memory (actual m)) ≡ row_of cx (Memory (op (record m { max_align = natural })))) → IsLike op (code, natural)
-like_of code natural op actual e f same = λ align offset behind a o. record {
+like_of code natural op actual e f same = λ align offset rest behind a o. record {
   actual = Memory (actual (near 0 align offset));
-  is_read = λ types. access_read code align offset (Memory (actual (near 0 align offset))) e a o (f (near 0 align offset)) types behind;
+  is_read = access_read code align offset (Memory (actual (near 0 align offset))) rest behind e a o (f (near 0 align offset));
   same_row = λ cx. same (near 0 align offset) cx;
 }
 
@@ -356,24 +404,18 @@ unfolding forms access_ops
 stores_f64 = (like_of 0x39 3 (store F64) (λ m. Store F64 (natural 3 m)) refl (λ m. refl) (λ m cx. refl), tt)
 
 -- what is behind the code and the place is left
-pub near_like : {bytes : List ℕ} {op : MemArg → MemoryOp} {n o p : ℕ} {place : MemArg} {r s : Unread} → BeginAccess bytes op n → r ≡ record { offset = o; left = drop 1 bytes } → IsNear r.left n place → s ≡ record { offset = p; left = drop 2 r.left } → BeginLike bytes (Memory (op place)) s.left
-near_like {bytes} {op} {n} {o} {p} {place} {r} {s} access f near_place g =
+pub near_like : {bytes : List ℕ} {op : MemArg → MemoryOp} {n o : ℕ} {place : MemArg} {r : Unread} {behind : List ℕ} → BeginAccess bytes op n → r ≡ record { offset = o; left = drop 1 bytes } → IsNear r.left n place behind → BeginLike bytes (Memory (op place)) behind
+near_like {bytes} {op} {n} {o} {place} {r} {behind} access f near_place =
     let rest : r.left ≡ drop 1 bytes = ap (λ (x : Unread). x.left) f in
-    let behind : s.left ≡ drop 2 r.left = ap (λ (x : Unread). x.left) g in
-    let whole : bytes ≡ access.code ∷ near_place.align ∷ near_place.offset ∷ s.left =
-    access.begins ∙ ap (λ bs. access.code ∷ bs) (sym rest ∙ near_place.begins ∙ ap (λ bs. near_place.align ∷ near_place.offset ∷ bs) (sym behind)) in
-    let like = access.like near_place.align near_place.offset s.left near_place.one_byte near_place.one_more in
-    subst (λ m. BeginLike bytes (Memory (op m)) s.left) (sym near_place.is_place) (subst (λ b. BeginLike b (Memory (op (near n near_place.align near_place.offset))) s.left) (sym whole) like)
+    let whole : bytes ≡ access.code ∷ near_place.align ∷ drop 1 r.left =
+    access.begins ∙ ap (λ bs. access.code ∷ bs) (sym rest ∙ near_place.begins) in
+    let like = access.like near_place.align near_place.offset (drop 1 r.left) behind near_place.one_byte near_place.is_offset in
+    subst (λ m. BeginLike bytes (Memory (op m)) behind) (sym near_place.is_place) (subst (λ b. BeginLike b (Memory (op (near n near_place.align near_place.offset))) behind) (sym whole) like)
 
 pub one_there : {bytes : List ℕ} {op : MemArg → MemoryOp} {n : ℕ} → BeginAccess bytes op n → 1 ≤ length bytes
 one_there {bytes} access =
     let one : length bytes ≡ suc (length (drop 1 bytes)) = ap (λ bs. length bs) access.begins in
     omega (arith, one)
-
-pub two_there : {bytes : List ℕ} {n : ℕ} {place : MemArg} → IsNear bytes n place → 2 ≤ length bytes
-two_there {bytes} near_place =
-    let two : length bytes ≡ suc (suc (length (drop 2 bytes))) = ap (λ bs. length bs) near_place.begins in
-    omega (arith, two)
 
 -- the bytes are these two and others
 pub record AreTwo (bytes : List ℕ) (code next : ℕ) (rest behind : List ℕ) : Type 0 where
@@ -388,6 +430,11 @@ two_of {bytes} {code} {next} e =
 -- an operator of one byte, and one of both
 pub has_one : {bytes : List ℕ} {code next : ℕ} → bytes ≡ code ∷ next ∷ drop 2 bytes → 1 ≤ length bytes
 has_one {bytes} e =
+    let two : length bytes ≡ suc (suc (length (drop 2 bytes))) = ap (λ bs. length bs) e in
+    omega (arith, two)
+
+pub has_two : {bytes : List ℕ} {code next : ℕ} → bytes ≡ code ∷ next ∷ drop 2 bytes → 2 ≤ length bytes
+has_two {bytes} e =
     let two : length bytes ≡ suc (suc (length (drop 2 bytes))) = ap (λ bs. length bs) e in
     omega (arith, two)
 
@@ -431,6 +478,14 @@ module _ {bytes : List ℕ} {code next : ℕ} {rest behind : List ℕ} (two : Ar
   unfolding is_common
   binary64_like e = moved (Numeric (IntegerBinary W64 Add)) rest (binary64_of code rest (from 0 forms code) (from 0x45 numeric_ops code) refl refl (common_there code Binary64 e))
 
+  pub binary_f32_like : BinaryF32 ≡ get_or kinds code Rare → BeginLike bytes (Numeric (FloatBinary R32 AddF)) rest
+  unfolding is_common
+  binary_f32_like e = moved (Numeric (FloatBinary R32 AddF)) rest (binary_f32_of code rest (from 0 forms code) (from 0x45 numeric_ops code) refl refl (common_there code BinaryF32 e))
+
+  pub binary_f64_like : BinaryF64 ≡ get_or kinds code Rare → BeginLike bytes (Numeric (FloatBinary R64 AddF)) rest
+  unfolding is_common
+  binary_f64_like e = moved (Numeric (FloatBinary R64 AddF)) rest (binary_f64_of code rest (from 0 forms code) (from 0x45 numeric_ops code) refl refl (common_there code BinaryF64 e))
+
   bare_like : (c : ℕ) (op : ControlOp) → nat_eq code c ≡ true → ((types : CanonicalTypes) → operator types (c ∷ rest) ≡ Some (unplaced (Control op), rest)) → BeginLike bytes (Control op) rest
   bare_like c op e read = moved (Control op) rest (subst (λ n. BeginLike (n ∷ rest) (Control op) rest) (sym (eqb-true code c e)) (record {
     actual = Control op;
@@ -466,16 +521,61 @@ module _ {bytes : List ℕ} {code next : ℕ} {rest behind : List ℕ} (two : Ar
     same_row = λ cx. refl;
   })))
 
-  pub constant_like : Constant32 ≡ get_or kinds code Rare → nat_lt next 128 ≡ true → BeginLike bytes (Numeric (I32Const (pos 0))) behind
+  begun : (c : ℕ) → from 0 forms c ≡ Some OfIndex → nat_eq code c ≡ true → (bytes ≡ c ∷ rest) × (from 0 forms c ≡ Some OfIndex)
+  begun c form e = (two.begins ∙ ap (λ n. n ∷ rest) (eqb-true code c e), form)
+
+  pub br_begun : Br ≡ get_or kinds code Rare → (bytes ≡ 0x0c ∷ rest) × (from 0 forms 0x0c ≡ Some OfIndex)
+  unfolding is_common forms
+  br_begun e = begun 0x0c refl (common_there code Br e)
+
+  pub br_if_begun : BrIf ≡ get_or kinds code Rare → (bytes ≡ 0x0d ∷ rest) × (from 0 forms 0x0d ≡ Some OfIndex)
+  unfolding is_common forms
+  br_if_begun e = begun 0x0d refl (common_there code BrIf e)
+
+  pub call_begun : Call ≡ get_or kinds code Rare → (bytes ≡ 0x10 ∷ rest) × (from 0 forms 0x10 ≡ Some OfIndex)
+  unfolding is_common forms
+  call_begun e = begun 0x10 refl (common_there code Call e)
+
+  pub global_get_begun : GlobalGet ≡ get_or kinds code Rare → (bytes ≡ 0x23 ∷ rest) × (from 0 forms 0x23 ≡ Some OfIndex)
+  unfolding is_common forms
+  global_get_begun e = begun 0x23 refl (common_there code GlobalGet e)
+
+  pub global_set_begun : GlobalSet ≡ get_or kinds code Rare → (bytes ≡ 0x24 ∷ rest) × (from 0 forms 0x24 ≡ Some OfIndex)
+  unfolding is_common forms
+  global_set_begun e = begun 0x24 refl (common_there code GlobalSet e)
+
+  constant_of : (c : ℕ) (make : ℤ → NumericOp) (bits : ℕ) (zero_is : ℤ) (left : List ℕ) → nat_eq code c ≡ true → ((types : CanonicalTypes) (bs : List ℕ) → operator types (c ∷ bs) ≡ (signed bits bs >>= (λ (n : ℤ × List ℕ). Some (Numeric (make n.0), n.1)))) → ((n : ℤ) (cx : Context) → row_of cx (Numeric (make n)) ≡ row_of cx (Numeric (make zero_is))) → (n : ℤ) × (signed bits rest ≡ Some (n, left)) → BeginLike bytes (Numeric (make zero_is)) left
+  constant_of c make bits zero_is left e read same n = moved (Numeric (make zero_is)) left (subst (λ k. BeginLike (k ∷ rest) (Numeric (make zero_is)) left) (sym (eqb-true code c e)) (record {
+    actual = Numeric (make n.0);
+    is_read = λ types. read types rest ∙ ap (λ (r : Option (ℤ × List ℕ)). r >>= (λ (j : ℤ × List ℕ). Some (Numeric (make j.0), j.1))) n.1;
+    same_row = λ cx. same n.0 cx;
+  }))
+
+  one_signed : (bits : ℕ) → 64 ≤ 2 ^ (bits - 1) → next < 128 → (n : ℤ) × (signed bits rest ≡ Some (n, behind))
+  one_signed bits wide l = as_signed bits rest behind (let v = small_biased bits next behind wide l in (v.0, ap (biased bits) two.goes_on ∙ v.1))
+
+  two_signed : (bits last : ℕ) (left : List ℕ) → 7 < bits → 64 ≤ 2 ^ (bits - 7 - 1) → 128 ≤ next → last < 128 → behind ≡ last ∷ left → (n : ℤ) × (signed bits rest ≡ Some (n, left))
+  two_signed bits last left more wide long short e = as_signed bits rest left (let v = two_biased bits next last left more wide long short in (v.0, ap (biased bits) (two.goes_on ∙ ap (λ bs. next ∷ bs) e) ∙ v.1))
+
+  constant32_of : (left : List ℕ) → Constant32 ≡ get_or kinds code Rare → (n : ℤ) × (signed 32 rest ≡ Some (n, left)) → BeginLike bytes (Numeric (I32Const (pos 0))) left
   unfolding is_common operator forms constant_i32
-  constant_like e l =
-      let read = small_signed next behind (ltb-true next 128 l) in
-      moved (Numeric (I32Const (pos 0))) behind (subst (λ n. BeginLike (n ∷ rest) (Numeric (I32Const (pos 0))) behind) (sym (eqb-true code 0x41 (common_there code Constant32 e))) (record {
-        actual = Numeric (I32Const read.0);
-        is_read = λ types. ap (λ bs. operator types (0x41 ∷ bs)) two.goes_on
-            ∙ ap (λ (r : Option (ℤ × List ℕ)). r >>= (λ (j : ℤ × List ℕ). Some (Numeric (I32Const j.0), j.1))) read.1;
-        same_row = λ cx. refl;
-      }))
+  constant32_of left e = constant_of 0x41 I32Const 32 (pos 0) left (common_there code Constant32 e) (λ types bs. refl) (λ n cx. refl)
+
+  constant64_of : (left : List ℕ) → Constant64 ≡ get_or kinds code Rare → (n : ℤ) × (signed 64 rest ≡ Some (n, left)) → BeginLike bytes (Numeric (I64Const (pos 0))) left
+  unfolding is_common operator forms constant_i64
+  constant64_of left e = constant_of 0x42 I64Const 64 (pos 0) left (common_there code Constant64 e) (λ types bs. refl) (λ n cx. refl)
+
+  pub constant32_like : Constant32 ≡ get_or kinds code Rare → next < 128 → BeginLike bytes (Numeric (I32Const (pos 0))) behind
+  constant32_like e l = constant32_of behind e (one_signed 32 (omega arith) l)
+
+  pub constant32_long : Constant32 ≡ get_or kinds code Rare → (last : ℕ) (left : List ℕ) → 128 ≤ next → last < 128 → behind ≡ last ∷ left → BeginLike bytes (Numeric (I32Const (pos 0))) left
+  constant32_long e last left long short is = constant32_of left e (two_signed 32 last left (omega arith) (omega arith) long short is)
+
+  pub constant64_like : Constant64 ≡ get_or kinds code Rare → next < 128 → BeginLike bytes (Numeric (I64Const (pos 0))) behind
+  constant64_like e l = constant64_of behind e (one_signed 64 (omega arith) l)
+
+  pub constant64_long : Constant64 ≡ get_or kinds code Rare → (last : ℕ) (left : List ℕ) → 128 ≤ next → last < 128 → behind ≡ last ∷ left → BeginLike bytes (Numeric (I64Const (pos 0))) left
+  constant64_long e last left long short is = constant64_of left e (two_signed 64 last left (omega arith) (omega arith) long short is)
 
   opener_like : (c : ℕ) (op : ControlOp) → nat_eq code c ≡ true → ((types : CanonicalTypes) (bs : List ℕ) → operator types (c ∷ 0x40 ∷ bs) ≡ Some (unplaced (Control op), bs)) → nat_eq next 0x40 ≡ true → BeginLike bytes (Control op) behind
   opener_like c op e read empty = moved (Control op) behind (subst (λ n. BeginLike (n ∷ rest) (Control op) behind) (sym (eqb-true code c e)) (record {

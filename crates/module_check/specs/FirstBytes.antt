@@ -1,6 +1,7 @@
 -- What the operators are that most code is made of, by their first byte (the crate's own).
 use Rattle.std.specs.Prelude.{◌≡◌, ℕ, false, ◌-◌, List, [], ◌∷◌, ◌++◌, ◌<◌, ◌≤◌, Some, drop, length, replicate}
 use Rattle.binary_operators.specs.Instructions.{operator}
+use Rattle.binary_operators.specs.Integers.{unsigned}
 use Rattle.binary_operators.specs.Unplaced.{unplaced}
 use Rattle.binary_operators.specs.declared.types.CanonicalTypes.{CanonicalTypes}
 use Rattle.validate_visit.specs.Order.{is_part_closer, nesting}
@@ -11,8 +12,8 @@ use Rattle.validate_visit.specs.declared.op.Op.{Op}
 use Rattle.validate_visit.specs.declared.op.Op.TheVariants.{Memory}
 use Rattle.validation_rules.specs.Context.{Context}
 use Rattle.validation_rules.specs.Operators.{operator as row_of}
-use Rattle.module_check.specs.declared.common.Common.{Common}
-use Rattle.module_check.specs.declared.common.Common.TheVariants.{Rare, Nop, Block, Loop, If, End, Br, BrIf, Return, Call, Drop, Select, LocalGet, LocalSet, LocalTee, GlobalGet, GlobalSet, Constant32, Test32, Compare32, Compare64, Binary32, Binary64, Load32, Load64, LoadF32, LoadF64, Store32, Store64, StoreF32, StoreF64}
+use Rattle.module_check.specs.declared.first_bytes.Common.{Common}
+use Rattle.module_check.specs.declared.first_bytes.Common.TheVariants.{Rare, Nop, Block, Loop, If, End, Br, BrIf, Return, Call, Drop, Select, LocalGet, LocalSet, LocalTee, GlobalGet, GlobalSet, Constant32, Constant64, Test32, Compare32, Compare64, Binary32, Binary64, BinaryF32, BinaryF64, Load32, Load64, LoadF32, LoadF64, Store32, Store64, StoreF32, StoreF64}
 
 -- The kinds of all bytes below an end. A row has the kind of the bytes from its own on, up to that of the next row.
 abbrev pub kinds_end : ℕ → List (ℕ × Common) → ℕ
@@ -35,8 +36,9 @@ kinds = kinds_below 0x100
     ∷ (0x36, Store32 2) ∷ (0x37, Store64 3) ∷ (0x38, StoreF32 2) ∷ (0x39, StoreF64 3)
     ∷ (0x3a, Store32 0) ∷ (0x3b, Store32 1) ∷ (0x3c, Store64 0) ∷ (0x3d, Store64 1) ∷ (0x3e, Store64 2)
     ∷ (0x3f, Rare)
-    ∷ (0x41, Constant32) ∷ (0x42, Rare) ∷ (0x45, Test32) ∷ (0x46, Compare32) ∷ (0x50, Rare)
-    ∷ (0x51, Compare64) ∷ (0x5b, Rare) ∷ (0x6a, Binary32) ∷ (0x79, Rare) ∷ (0x7c, Binary64) ∷ (0x8b, Rare) ∷ [])
+    ∷ (0x41, Constant32) ∷ (0x42, Constant64) ∷ (0x43, Rare) ∷ (0x45, Test32) ∷ (0x46, Compare32) ∷ (0x50, Rare)
+    ∷ (0x51, Compare64) ∷ (0x5b, Rare) ∷ (0x6a, Binary32) ∷ (0x79, Rare) ∷ (0x7c, Binary64) ∷ (0x8b, Rare)
+    ∷ (0x92, BinaryF32) ∷ (0x99, Rare) ∷ (0xa0, BinaryF64) ∷ (0xa7, Rare) ∷ [])
 
 -- The bytes begin with an operator, behind which these are left, and its row is that of this one.
 pub record BeginLike (bytes : List ℕ) (op : Op) (behind : List ℕ) : Type 0 where
@@ -54,18 +56,18 @@ pub record BeginAs (bytes : List ℕ) (op : Op) (count : ℕ) : Type 0 where
 abbrev pub near : ℕ → ℕ → ℕ → MemArg
 near natural align offset = record { align = align; max_align = natural; offset = offset; target = InMemory 0 }
 
--- the bytes begin with this place, whose alignment and offset are a byte each
-pub record IsNear (bytes : List ℕ) (natural : ℕ) (place : MemArg) : Type 0 where
+-- the bytes begin with this place, whose alignment is a byte, and behind it these are left
+pub record IsNear (bytes : List ℕ) (natural : ℕ) (place : MemArg) (behind : List ℕ) : Type 0 where
   pub align : ℕ
   pub offset : ℕ
-  pub begins : bytes ≡ align ∷ offset ∷ drop 2 bytes
+  pub begins : bytes ≡ align ∷ drop 1 bytes
+  pub is_offset : unsigned 64 (drop 1 bytes) ≡ Some (offset, behind)
   pub is_place : place ≡ near natural align offset
   pub one_byte : align < 64
-  pub one_more : offset < 128
 
 -- The bytes begin with a code. With such a place behind it, it is an operator whose row is that of this one.
 pub record BeginAccess (bytes : List ℕ) (op : MemArg → MemoryOp) (natural : ℕ) : Type 0 where
   pub code : ℕ
   pub begins : bytes ≡ code ∷ drop 1 bytes
-  pub like : (align offset : ℕ) (behind : List ℕ) → align < 64 → offset < 128
-      → BeginLike (code ∷ align ∷ offset ∷ behind) (Memory (op (near natural align offset))) behind
+  pub like : (align offset : ℕ) (rest behind : List ℕ) → align < 64 → unsigned 64 rest ≡ Some (offset, behind)
+      → BeginLike (code ∷ align ∷ rest) (Memory (op (near natural align offset))) behind

@@ -1,9 +1,12 @@
 //! The operators that most code is made of. Their first byte tells them, and each is checked as it is read.
 
-ghost use Rattle.std.specs.Prelude.{◌≡◌, ◌≢◌, true, false, [], pos, get_or, IfSome};
-ghost use Rattle.module_check.specs.declared.common.Common.TheVariants.{Rare};
+ghost use Rattle.std.specs.Prelude.{◌≡◌, ◌≢◌, ℕ, ◌<◌, ◌≤◌, true, false, List, [], ◌∷◌, Some, drop, length, IfSome};
+ghost use Rattle.binary_operators.specs.Forms.{from, forms};
+ghost use Rattle.binary_operators.specs.Integers.{unsigned};
+ghost use Rattle.binary_operators.specs.declared.forms.Form.TheVariants.{Index};
 ghost use Rattle.validate_visit.specs.Order.{is_part_closer, nesting};
 ghost use Rattle.validate_visit.specs.declared.op.ControlOp.{ControlOp};
+ghost use Rattle.validate_visit.specs.declared.numeric.FloatBinaryOp.{FloatBinaryOp};
 ghost use Rattle.validate_visit.specs.declared.numeric.IntegerBinaryOp.{IntegerBinaryOp};
 ghost use Rattle.validate_visit.specs.declared.numeric.IntegerComparisonOp.{IntegerComparisonOp};
 ghost use Rattle.validate_visit.specs.declared.op.NumericOp.{NumericOp};
@@ -12,372 +15,24 @@ ghost use Rattle.validate_visit.specs.declared.op.Op.{Op};
 ghost use Rattle.validate_operators.specs.Validator.{state, stacks_of};
 ghost use Rattle.validate_stacks.specs.Visits.{MayVisit};
 ghost use Rattle.module_check.specs.Turns.{Passes, Turns};
-ghost use Rattle.module_check.specs.FirstBytes.{kinds, BeginAs, BeginLike, BeginAccess, IsNear};
+ghost use Rattle.module_check.specs.FirstBytes.{BeginAs, BeginLike, BeginAccess, IsNear};
 
-use crate::common::Common::{
-    Binary32, Binary64, Block, Br, BrIf, Call, Compare32, Compare64, Constant32, Drop, End,
-    GlobalGet, GlobalSet, If, Load32, Load64, LoadF32, LoadF64, LocalGet, LocalSet, LocalTee, Loop,
-    Nop, Rare, Return, Select, Store32, Store64, StoreF32, StoreF64, Test32,
+use crate::first_bytes::Common::{
+    Binary32, Binary64, BinaryF32, BinaryF64, Block, Br, BrIf, Call, Compare32, Compare64,
+    Constant32, Constant64, Drop, End, GlobalGet, GlobalSet, If, Load32, Load64, LoadF32, LoadF64,
+    LocalGet, LocalSet, LocalTee, Loop, Nop, Rare, Return, Select, Store32, Store64, StoreF32,
+    StoreF64, Test32,
 };
+use crate::first_bytes::common_of;
+use crate::indexed::indexed;
 use binary_operators::BinaryReader;
 use validate_operators::OperatorValidator;
 use validate_resources::WasmModuleResources;
 use validate_visit::BlockType::Empty;
 use validate_visit::{
-    ControlOp, IntegerBinaryOp, IntegerComparisonOp, IntegerType, MemArg, MemArgTarget, MemoryOp,
-    NumberType, NumericOp, Op,
+    ControlOp, FloatBinaryOp, FloatType, IntegerBinaryOp, IntegerComparisonOp, IntegerType, MemArg,
+    MemArgTarget, MemoryOp, NumberType, NumericOp, Op,
 };
-
-/// An operator, as far as its first byte tells it.
-#[derive(Clone, Copy)]
-enum Common {
-    /// Another operator, or none.
-    Rare,
-    /// `nop`
-    Nop,
-    /// `block`
-    Block,
-    /// `loop`
-    Loop,
-    /// `if`
-    If,
-    /// `end`
-    End,
-    /// `br`
-    Br,
-    /// `br_if`
-    BrIf,
-    /// `return`
-    Return,
-    /// `call`
-    Call,
-    /// `drop`
-    Drop,
-    /// `select` without a type.
-    Select,
-    /// `local.get`
-    LocalGet,
-    /// `local.set`
-    LocalSet,
-    /// `local.tee`
-    LocalTee,
-    /// `global.get`
-    GlobalGet,
-    /// `global.set`
-    GlobalSet,
-    /// `i32.const`
-    Constant32,
-    /// `i32.eqz`
-    Test32,
-    /// A comparison of two integers of 32 bits.
-    Compare32,
-    /// A comparison of two integers of 64 bits.
-    Compare64,
-    /// An integer of 32 bits out of two.
-    Binary32,
-    /// An integer of 64 bits out of two.
-    Binary64,
-    /// A load of an integer of 32 bits, with its natural alignment.
-    Load32(u8),
-    /// A load of an integer of 64 bits.
-    Load64(u8),
-    /// A load of a float of 32 bits.
-    LoadF32(u8),
-    /// A load of a float of 64 bits.
-    LoadF64(u8),
-    /// A store of an integer of 32 bits, with its natural alignment.
-    Store32(u8),
-    /// A store of an integer of 64 bits.
-    Store64(u8),
-    /// A store of a float of 32 bits.
-    StoreF32(u8),
-    /// A store of a float of 64 bits.
-    StoreF64(u8),
-}
-
-/// By their first byte, from 0x00 on.
-static COMMON: [Common; 256] = [
-    // from 0x00 on
-    Rare,
-    Nop,
-    Block,
-    Loop,
-    If,
-    Rare,
-    Rare,
-    Rare,
-    Rare,
-    Rare,
-    Rare,
-    End,
-    Br,
-    BrIf,
-    Rare,
-    Return,
-    // from 0x10 on
-    Call,
-    Rare,
-    Rare,
-    Rare,
-    Rare,
-    Rare,
-    Rare,
-    Rare,
-    Rare,
-    Rare,
-    Drop,
-    Select,
-    Rare,
-    Rare,
-    Rare,
-    Rare,
-    // from 0x20 on
-    LocalGet,
-    LocalSet,
-    LocalTee,
-    GlobalGet,
-    GlobalSet,
-    Rare,
-    Rare,
-    Rare,
-    Load32(2),
-    Load64(3),
-    LoadF32(2),
-    LoadF64(3),
-    Load32(0),
-    Load32(0),
-    Load32(1),
-    Load32(1),
-    // from 0x30 on
-    Load64(0),
-    Load64(0),
-    Load64(1),
-    Load64(1),
-    Load64(2),
-    Load64(2),
-    Store32(2),
-    Store64(3),
-    StoreF32(2),
-    StoreF64(3),
-    Store32(0),
-    Store32(1),
-    Store64(0),
-    Store64(1),
-    Store64(2),
-    Rare,
-    // from 0x40 on
-    Rare,
-    Constant32,
-    Rare,
-    Rare,
-    Rare,
-    Test32,
-    Compare32,
-    Compare32,
-    Compare32,
-    Compare32,
-    Compare32,
-    Compare32,
-    Compare32,
-    Compare32,
-    Compare32,
-    Compare32,
-    // from 0x50 on
-    Rare,
-    Compare64,
-    Compare64,
-    Compare64,
-    Compare64,
-    Compare64,
-    Compare64,
-    Compare64,
-    Compare64,
-    Compare64,
-    Compare64,
-    Rare,
-    Rare,
-    Rare,
-    Rare,
-    Rare,
-    // from 0x60 on
-    Rare,
-    Rare,
-    Rare,
-    Rare,
-    Rare,
-    Rare,
-    Rare,
-    Rare,
-    Rare,
-    Rare,
-    Binary32,
-    Binary32,
-    Binary32,
-    Binary32,
-    Binary32,
-    Binary32,
-    // from 0x70 on
-    Binary32,
-    Binary32,
-    Binary32,
-    Binary32,
-    Binary32,
-    Binary32,
-    Binary32,
-    Binary32,
-    Binary32,
-    Rare,
-    Rare,
-    Rare,
-    Binary64,
-    Binary64,
-    Binary64,
-    Binary64,
-    // from 0x80 on
-    Binary64,
-    Binary64,
-    Binary64,
-    Binary64,
-    Binary64,
-    Binary64,
-    Binary64,
-    Binary64,
-    Binary64,
-    Binary64,
-    Binary64,
-    Rare,
-    Rare,
-    Rare,
-    Rare,
-    Rare,
-    // from 0x90 on
-    Rare,
-    Rare,
-    Rare,
-    Rare,
-    Rare,
-    Rare,
-    Rare,
-    Rare,
-    Rare,
-    Rare,
-    Rare,
-    Rare,
-    Rare,
-    Rare,
-    Rare,
-    Rare,
-    // from 0xa0 on
-    Rare,
-    Rare,
-    Rare,
-    Rare,
-    Rare,
-    Rare,
-    Rare,
-    Rare,
-    Rare,
-    Rare,
-    Rare,
-    Rare,
-    Rare,
-    Rare,
-    Rare,
-    Rare,
-    // from 0xb0 on
-    Rare,
-    Rare,
-    Rare,
-    Rare,
-    Rare,
-    Rare,
-    Rare,
-    Rare,
-    Rare,
-    Rare,
-    Rare,
-    Rare,
-    Rare,
-    Rare,
-    Rare,
-    Rare,
-    // from 0xc0 on
-    Rare,
-    Rare,
-    Rare,
-    Rare,
-    Rare,
-    Rare,
-    Rare,
-    Rare,
-    Rare,
-    Rare,
-    Rare,
-    Rare,
-    Rare,
-    Rare,
-    Rare,
-    Rare,
-    // from 0xd0 on
-    Rare,
-    Rare,
-    Rare,
-    Rare,
-    Rare,
-    Rare,
-    Rare,
-    Rare,
-    Rare,
-    Rare,
-    Rare,
-    Rare,
-    Rare,
-    Rare,
-    Rare,
-    Rare,
-    // from 0xe0 on
-    Rare,
-    Rare,
-    Rare,
-    Rare,
-    Rare,
-    Rare,
-    Rare,
-    Rare,
-    Rare,
-    Rare,
-    Rare,
-    Rare,
-    Rare,
-    Rare,
-    Rare,
-    Rare,
-    // from 0xf0 on
-    Rare,
-    Rare,
-    Rare,
-    Rare,
-    Rare,
-    Rare,
-    Rare,
-    Rare,
-    Rare,
-    Rare,
-    Rare,
-    Rare,
-    Rare,
-    Rare,
-    Rare,
-    Rare,
-];
-
-/// What an operator is that begins with this byte.
-#[inline(always)]
-fn common_of(code: u8) -> Common
-    ensures { result ≡ get_or kinds code Rare }
-{
-    COMMON[usize::from(code)]
-}
 
 /// Whether the operator that the bytes begin with passes at once: its row is that of the one that is handed in. Then
 /// it is read; otherwise nothing is changed. One that closes no frame leaves one open.
@@ -511,40 +166,97 @@ fn turn_with<R: WasmModuleResources>(
     turn_of_bytes(v, resources, reader, 2, Op::Control(op))
 }
 
-/// [`turn_of_bytes`] of an `i32.const` that is two bytes, if the second is fit.
+/// The turn of an operator of this code, whose index begins with this byte: it is the one that is handed in, if the byte is
+/// all of the index. An index of two bytes or five is read.
+#[inline(always)]
+#[tactic(auto, using(crate::proofs::Turned::not_passed))]
+fn turn_of_index<R: WasmModuleResources>(
+    v: &mut OperatorValidator,
+    resources: &R,
+    reader: &mut BinaryReader<'_>,
+    code: u8,
+    first: u8,
+    op: ControlOp<'_>,
+) -> Turn
+    requires visit { MayVisit (R.context resources.now) (stacks_of v.old) }
+    requires begins { reader.old.left ≡ code ∷ drop 1 reader.old.left }
+    requires form { from 0 forms code ≡ Some Index }
+    requires short { first < 128 → BeginAs reader.old.left (Op.Control op) 2 }
+    ensures { Turns (R.context resources.now) result reader.old reader.new (stacks_of v.old) (stacks_of v.new) }
+{
+    if first < 0x80 {
+        return turn_of_bytes(v, resources, reader, 2, Op::Control(op));
+    }
+    let mut rest = reader.behind(1);
+    let Some(index) = rest.read_long_u32() else {
+        return Turn::NotPassed;
+    };
+    match indexed(code, index) {
+        Some(op) => open_turn(v, resources, reader, rest, Op::Control(op)),
+        None => Turn::NotPassed,
+    }
+}
+
+/// The turn of a constant, whose number begins with this byte: its row is that of the one that is handed in. The number is
+/// two bytes at the most.
 #[inline(always)]
 #[tactic(auto, using(crate::proofs::Turned::not_passed))]
 fn turn_of_constant<R: WasmModuleResources>(
     v: &mut OperatorValidator,
     resources: &R,
     reader: &mut BinaryReader<'_>,
-    is_fit: bool,
+    first: u8,
+    op: NumericOp,
 ) -> Turn
     requires visit { MayVisit (R.context resources.now) (stacks_of v.old) }
-    requires like { is_fit ≡ true → BeginAs reader.old.left (Op.Numeric (NumericOp.I32Const (pos 0))) 2 }
+    requires there { 2 ≤ length reader.old.left }
+    requires short { first < 128 → BeginAs reader.old.left (Op.Numeric op) 2 }
+    requires long { (last : ℕ) (behind : List ℕ) → 128 ≤ first → last < 128
+        → drop 2 reader.old.left ≡ last ∷ behind → BeginLike reader.old.left (Op.Numeric op) behind }
     ensures { Turns (R.context resources.now) result reader.old reader.new (stacks_of v.old) (stacks_of v.new) }
 {
-    if !is_fit {
+    if first < 0x80 {
+        return turn_of_bytes(v, resources, reader, 2, Op::Numeric(op));
+    }
+    let mut rest = reader.behind(2);
+    let Ok(last) = rest.read_u8() else {
+        return Turn::NotPassed;
+    };
+    if last >= 0x80 {
         return Turn::NotPassed;
     }
-    turn_of_bytes(v, resources, reader, 2, Op::Numeric(NumericOp::I32Const(0)))
+    open_turn(v, resources, reader, rest, Op::Numeric(op))
 }
 
-/// The place in the first memory that is next, if its alignment and its offset are a byte each.
+/// The offset that begins with this byte, if it is a byte, two or five. It is read then.
 #[inline(always)]
-fn near_place(reader: &BinaryReader<'_>, natural: u8) -> Option<MemArg>
-    ensures { IfSome result (λ place. IsNear reader.now.left natural place) }
+fn near_offset(reader: &mut BinaryReader<'_>, first: u8) -> Option<u64>
+    requires { reader.old.left ≡ first ∷ drop 1 reader.old.left }
+    ensures { IfSome result (λ offset. unsigned 64 reader.old.left ≡ Some (offset, reader.new.left)) }
 {
-    let Some((align, offset)) = reader.next_two() else {
-        return None;
-    };
-    if align >= 0x40 || offset >= 0x80 {
+    if first >= 0x80 {
+        return reader.read_long_number(64);
+    }
+    *reader = reader.behind(1);
+    Some(u64::from(first))
+}
+
+/// The place in the first memory that is next, if its alignment is a byte, and its offset one, two or five. It is read then.
+#[inline(always)]
+fn near_place(reader: &mut BinaryReader<'_>, natural: u8) -> Option<MemArg>
+    ensures { IfSome result (λ place. IsNear reader.old.left natural place reader.new.left) }
+{
+    let (align, first) = reader.next_two()?;
+    if align >= 0x40 {
         return None;
     }
+    let mut behind = reader.behind(1);
+    let offset = near_offset(&mut behind, first)?;
+    *reader = behind;
     Some(MemArg {
         align,
         max_align: natural,
-        offset: u64::from(offset),
+        offset,
         target: MemArgTarget::Memory(0),
     })
 }
@@ -563,12 +275,12 @@ fn turn_of_load<R: WasmModuleResources>(
     requires like { BeginAccess reader.old.left (λ place. MemoryOp.Load ty place) natural }
     ensures { Turns (R.context resources.now) result reader.old reader.new (stacks_of v.old) (stacks_of v.new) }
 {
-    let rest = reader.behind(1);
-    let Some(place) = near_place(&rest, natural) else {
+    let mut rest = reader.behind(1);
+    let Some(place) = near_place(&mut rest, natural) else {
         return Turn::NotPassed;
     };
     let loaded = MemoryOp::Load(ty, place);
-    memory_turn(v, resources, reader, rest.behind(2), loaded)
+    memory_turn(v, resources, reader, rest, loaded)
 }
 
 /// The same of a store.
@@ -585,12 +297,12 @@ fn turn_of_store<R: WasmModuleResources>(
     requires like { BeginAccess reader.old.left (λ place. MemoryOp.Store ty place) natural }
     ensures { Turns (R.context resources.now) result reader.old reader.new (stacks_of v.old) (stacks_of v.new) }
 {
-    let rest = reader.behind(1);
-    let Some(place) = near_place(&rest, natural) else {
+    let mut rest = reader.behind(1);
+    let Some(place) = near_place(&mut rest, natural) else {
         return Turn::NotPassed;
     };
     let stored = MemoryOp::Store(ty, place);
-    memory_turn(v, resources, reader, rest.behind(2), stored)
+    memory_turn(v, resources, reader, rest, stored)
 }
 
 /// The turn of an `end`, behind which the rest is left.
@@ -651,6 +363,14 @@ fn binary(ty: IntegerType) -> Op<'static>
     Op::Numeric(NumericOp::IntegerBinary(ty, IntegerBinaryOp::Add))
 }
 
+/// Any binary operator on floats of this type.
+#[inline(always)]
+fn float_binary(ty: FloatType) -> Op<'static>
+    ensures { result ≡ Op.Numeric (NumericOp.FloatBinary ty FloatBinaryOp.Add) }
+{
+    Op::Numeric(NumericOp::FloatBinary(ty, FloatBinaryOp::Add))
+}
+
 /// Any comparison of integers of this type.
 #[inline(always)]
 fn comparison(ty: IntegerType) -> Op<'static>
@@ -689,15 +409,32 @@ pub(crate) fn common_turn<R: WasmModuleResources>(
         Compare64 => turn_of_bytes(v, resources, reader, 1, comparison(IntegerType::I64)),
         Binary32 => turn_of_bytes(v, resources, reader, 1, binary(IntegerType::I32)),
         Binary64 => turn_of_bytes(v, resources, reader, 1, binary(IntegerType::I64)),
-        Constant32 => turn_of_constant(v, resources, reader, is_index),
-        Br => turn_with(v, resources, reader, is_index, ControlOp::Br(index)),
-        BrIf => turn_with(v, resources, reader, is_index, ControlOp::BrIf(index)),
-        Call => turn_with(v, resources, reader, is_index, ControlOp::Call(index)),
+        BinaryF32 => turn_of_bytes(v, resources, reader, 1, float_binary(FloatType::F32)),
+        BinaryF64 => turn_of_bytes(v, resources, reader, 1, float_binary(FloatType::F64)),
+        Constant32 => turn_of_constant(v, resources, reader, next, NumericOp::I32Const(0)),
+        Constant64 => turn_of_constant(v, resources, reader, next, NumericOp::I64Const(0)),
+        Br => turn_of_index(v, resources, reader, 0x0c, next, ControlOp::Br(index)),
+        BrIf => turn_of_index(v, resources, reader, 0x0d, next, ControlOp::BrIf(index)),
+        Call => turn_of_index(v, resources, reader, 0x10, next, ControlOp::Call(index)),
         LocalGet => turn_with(v, resources, reader, is_index, ControlOp::LocalGet(index)),
         LocalSet => turn_with(v, resources, reader, is_index, ControlOp::LocalSet(index)),
         LocalTee => turn_with(v, resources, reader, is_index, ControlOp::LocalTee(index)),
-        GlobalGet => turn_with(v, resources, reader, is_index, ControlOp::GlobalGet(index)),
-        GlobalSet => turn_with(v, resources, reader, is_index, ControlOp::GlobalSet(index)),
+        GlobalGet => turn_of_index(
+            v,
+            resources,
+            reader,
+            0x23,
+            next,
+            ControlOp::GlobalGet(index),
+        ),
+        GlobalSet => turn_of_index(
+            v,
+            resources,
+            reader,
+            0x24,
+            next,
+            ControlOp::GlobalSet(index),
+        ),
         Block => turn_with(v, resources, reader, is_empty, ControlOp::Block(Empty)),
         Loop => turn_with(v, resources, reader, is_empty, ControlOp::Loop(Empty)),
         If => turn_with(v, resources, reader, is_empty, ControlOp::If(Empty)),

@@ -8,6 +8,8 @@ mod code;
 mod common;
 mod constant;
 mod expression;
+mod first_bytes;
+mod indexed;
 mod items;
 mod load_refusal;
 mod loaded;

@@ -1,44 +1,21 @@
 //! The operators that don't pass as common ones, but whose first byte tells how they are read: those on numbers, constants,
 //! conversions, loads and stores, and those with an index, whatever length their immediates have.
 
-ghost use Rattle.std.specs.Prelude.{◌≡◌, ◌∷◌, Some, IfSome, option_map};
-ghost use Rattle.binary_operators.specs.Codes.{at, index_ops};
+ghost use Rattle.std.specs.Prelude.{◌≡◌, ◌∷◌, Some};
 ghost use Rattle.binary_operators.specs.Forms.{from, forms};
-ghost use Rattle.binary_operators.specs.Unplaced.{unplaced};
 ghost use Rattle.binary_operators.specs.declared.forms.Form.TheVariants.{Access, Conversion, Index, Numeric, I32, I64, F32, F64};
-ghost use Rattle.validate_visit.specs.declared.op.Op.TheVariants.{Control};
 ghost use Rattle.validate_operators.specs.Validator.{stacks_of};
 ghost use Rattle.validate_stacks.specs.Visits.{MayVisit};
 ghost use Rattle.module_check.specs.Turns.{Passes};
 
 use crate::common::{passes, passes_memory};
+use crate::indexed::indexed;
 use binary_operators::{
     BinaryReader, Form, access_op, conversion_op, form_of, numeric_op, read_memarg,
 };
 use validate_operators::OperatorValidator;
 use validate_resources::WasmModuleResources;
-use validate_visit::{ControlOp, Ieee32, Ieee64, NumericOp, Op};
-
-/// The operator on control or variables of this code, with this index, if it is one of those that code is full of.
-#[inline(always)]
-#[tactic(auto, unfolding(binary_operators::specs::Codes::index_ops))]
-fn indexed(code: u8, index: u32) -> Option<ControlOp<'static>>
-    ensures { IfSome result (λ op. option_map (λ make. make index) (at code index_ops)
-        ≡ Some (unplaced (Control op))) }
-{
-    let op = match code {
-        0x0c => ControlOp::Br(index),
-        0x0d => ControlOp::BrIf(index),
-        0x10 => ControlOp::Call(index),
-        0x20 => ControlOp::LocalGet(index),
-        0x21 => ControlOp::LocalSet(index),
-        0x22 => ControlOp::LocalTee(index),
-        0x23 => ControlOp::GlobalGet(index),
-        0x24 => ControlOp::GlobalSet(index),
-        _ => return None,
-    };
-    Some(op)
-}
+use validate_visit::{Ieee32, Ieee64, NumericOp, Op};
 
 /// [`passes`] of an operator on control or variables of this code, behind which the rest is left.
 #[inline(never)]

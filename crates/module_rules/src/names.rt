@@ -1,9 +1,11 @@
 //! Whether the names of exports differ (WebAssembly core specification, "Modules": exports).
 
 ghost use Rattle.std.specs.Prelude.{◌≡◌, true, false, map, IfErr, OnOk};
+ghost use Rattle.std.specs.List.{fold};
 ghost use Rattle.module_rules.specs.Exported.{Exported};
 ghost use Rattle.module_rules.specs.Exports.{are_distinct};
-ghost use Rattle.module_rules.specs.Names.{mix_name};
+ghost use Rattle.module_rules.specs.Mixing.{mix};
+ghost use Rattle.module_rules.specs.Names.{mix_name, mix_words};
 
 use crate::items::Export;
 use crate::mixing::mix;
@@ -20,15 +22,34 @@ fn duplicate(alloc: Global, export: &Export) -> Error {
     )
 }
 
+/// The number with eight bytes at a time mixed in.
+fn mix_words(words: &[[u8; 8]]) -> u64
+    ensures { result ≡ mix_words words.now }
+{
+    let mut mixed = 0;
+    for word in words {
+        mixed = mix(mixed, u64::from_le_bytes(*word));
+    }
+    mixed
+}
+
+/// The number with these bytes mixed in.
+fn mix_bytes(number: u64, bytes: &[u8]) -> u64
+    ensures { result ≡ fold mix number bytes.now }
+{
+    let mut mixed = number;
+    for byte in bytes {
+        mixed = mix(mixed, u64::from(*byte));
+    }
+    mixed
+}
+
 /// The number that is mixed from a name.
 fn mix_name(name: &str) -> u64
     ensures { result ≡ mix_name name.now }
 {
-    let mut mixed = 0;
-    for byte in name.as_bytes() {
-        mixed = mix(mixed, u64::from(*byte));
-    }
-    mixed
+    let (words, bytes) = name.as_bytes().as_chunks::<8>();
+    mix_bytes(mix_words(words), bytes)
 }
 
 /// No two exports have one name. It takes memory for the set of the names. They are ordered by the numbers that are mixed

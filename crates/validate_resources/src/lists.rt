@@ -390,6 +390,9 @@ impl WasmModuleResources for ModuleLists {
         features: &WasmFeatures,
         offset: u64,
     ) -> Result<(), Error> {
+        if is_open_number(*ty, *features) {
+            return Ok(());
+        }
         if let Err(text) = features.check_value_type(*ty) {
             return Err(Error::new(text, offset));
         }

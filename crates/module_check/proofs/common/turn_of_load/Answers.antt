@@ -1,12 +1,9 @@
 -- The code and the place are the operator.
-use Rattle.module_check.proofs.FirstBytes.{near_like, one_there, two_there}
+use Rattle.module_check.proofs.FirstBytes.{near_like, one_there}
 use Rattle.module_check.proofs.common.turn_of_load.Goals as goal
 
 pub behind-rest-requires : goal.behind-rest-requires
 behind-rest-requires g c = one_there c.requires.like
 
-pub behind-requires : goal.behind-requires
-behind-requires g c = two_there c.in-Some.ensures
-
 pub memory_turn-requires-clause-like : goal.memory_turn-requires-clause-like
-memory_turn-requires-clause-like g c = near_like c.requires.like c.behind-rest.ensures c.in-Some.ensures c.behind.ensures
+memory_turn-requires-clause-like g c = near_like c.requires.like c.behind-rest.ensures c.in-Some.ensures

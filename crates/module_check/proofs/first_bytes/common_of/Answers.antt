@@ -1,8 +1,8 @@
 -- The table is that of the bytes.
 use Rattle.std.proofs.Common.{ap, get_or}
 use Rattle.module_check.specs.FirstBytes.{kinds}
-use Rattle.module_check.specs.declared.common.Common.TheVariants.{Rare}
-use Rattle.module_check.proofs.common.common_of.Goals as goal
+use Rattle.module_check.specs.declared.first_bytes.Common.TheVariants.{Rare}
+use Rattle.module_check.proofs.first_bytes.common_of.Goals as goal
 
 pub returns : goal.returns
 unfolding kinds

@@ -2,7 +2,7 @@
 use Rattle.std.proofs.Common.{◌≡◌, take}
 use Rattle.std.specs.List.{fold}
 use Rattle.module_rules.specs.Mixing.{mix}
-use Rattle.module_rules.proofs.names.mix_name.Given as goal
+use Rattle.module_rules.proofs.names.mix_bytes.Given as goal
 
 abbrev pub invariant-loop-byte : goal.invariant-loop-byte
-invariant-loop-byte l = l.mixed ≡ fold mix 0 (take l.byte-index l.name)
+invariant-loop-byte l = l.mixed ≡ fold mix l.number (take l.byte-index l.bytes)

@@ -20,6 +20,15 @@ CHOICES = (
     "gated_memory",
     "memory_operator",
 )
+# What common operators of whole bodies are read and checked by, in the library.
+TURNS = (
+    "common_turn",
+    "turn_of_index",
+    "turn_of_constant",
+    "turn_of_load",
+    "turn_of_store",
+    "turn_with",
+)
 INLINED = CHOICES + (
     "is_accepted",
     "gated_numeric",
@@ -31,7 +40,6 @@ INLINED = CHOICES + (
     "push_operand",
     "exchange_numbers_at_once",
     "exchange_known_at_once",
-    "exchange_operands",
 )
 # It is called: where it has no name, functions have no names.
 CALLED = "find_by_call"
@@ -47,9 +55,9 @@ def look(tally, name, text, looked_for):
 
 
 def look_in_library(tally, library):
-    """Looks for the choices in the static library."""
+    """Looks for the choices and the turns in the static library."""
     names = subprocess.run(["nm", library], stdout=subprocess.PIPE, text=True, check=True).stdout
-    look(tally, "the library", names, CHOICES)
+    look(tally, "the library", names, CHOICES + TURNS)
 
 
 def main():

@@ -28,7 +28,7 @@ use Rattle.validate_visit.specs.declared.numeric.FloatBinaryOp.TheVariants.{Add 
 use Rattle.validate_visit.specs.declared.numeric.IntegerBinaryOp.TheVariants.{Add}
 use Rattle.validate_visit.specs.declared.numeric.IntegerComparisonOp.TheVariants.{Eq}
 use Rattle.validate_visit.specs.declared.op.ControlOp.{ControlOp}
-use Rattle.validate_visit.specs.declared.op.ControlOp.TheVariants.{Nop as NopOp, End as EndOp, Return as ReturnOp, Drop as DropOp, Select as SelectOp, Br as BrOp, BrIf as BrIfOp, Call as CallOp, LocalGet as LocalGetOp, LocalSet as LocalSetOp, LocalTee as LocalTeeOp, GlobalGet as GlobalGetOp, GlobalSet as GlobalSetOp, Block as BlockOp, Loop as LoopOp, If as IfOp}
+use Rattle.validate_visit.specs.declared.op.ControlOp.TheVariants.{Nop as NopOp, End as EndOp, Return as ReturnOp, Drop as DropOp, Select as SelectOp, LocalGet as LocalGetOp, LocalSet as LocalSetOp, LocalTee as LocalTeeOp, Block as BlockOp, Loop as LoopOp, If as IfOp}
 use Rattle.validate_visit.specs.declared.op.NumericOp.{NumericOp}
 use Rattle.validate_visit.specs.declared.op.NumericOp.TheVariants.{I32Const, I64Const, Eqz, IntegerBinary, IntegerComparison, FloatBinary}
 use Rattle.validate_visit.specs.declared.op.Op.{Op}
@@ -36,7 +36,7 @@ use Rattle.validate_visit.specs.declared.op.Op.TheVariants.{Numeric, Control, Me
 use Rattle.validate_visit.specs.declared.frame.BlockType.TheVariants.{Empty}
 use Rattle.validation_rules.specs.Context.{Context}
 use Rattle.validation_rules.specs.Operators.{operator as row_of}
-use Rattle.module_check.specs.FirstBytes.{kinds, near, BeginAs, BeginLike, BeginAccess, IsNear}
+use Rattle.module_check.specs.FirstBytes.{kinds, near, BeginAs, BeginLike, BeginAccess, EndsNear, IsNear}
 use Rattle.module_check.specs.declared.first_bytes.Common.{Common}
 use Rattle.module_check.specs.declared.first_bytes.Common.TheVariants.{Rare, Nop, Block, Loop, If, End, Br, BrIf, Return, Call, Drop, Select, LocalGet, LocalSet, LocalTee, GlobalGet, GlobalSet, Constant32, Constant64, Test32, Compare32, Compare64, Binary32, Binary64, BinaryF32, BinaryF64, Load32, Load64, LoadF32, LoadF64, Store32, Store64, StoreF32, StoreF64}
 
@@ -211,9 +211,6 @@ small_unsigned : (bits i : ℕ) (bs : List ℕ) → i < 128 → i < 2 ^ bits →
 small_unsigned bits i bs l fits =
     ap (λ t. if t then (if nat_lt i (2 ^ bits) then Some (i, bs) else None) else (if nat_lt 7 bits then with_low (i - 128) (unsigned (bits - 7) bs) else None)) (lt-ltb i 128 l)
     ∙ ap (λ t. if t then Some (i, bs) else None) (lt-ltb i (2 ^ bits) fits)
-
-pub one_byte_read : (i : ℕ) (bs : List ℕ) → i < 128 → unsigned 64 (i ∷ bs) ≡ Some (i, bs)
-one_byte_read i bs l = small_unsigned 64 i bs l (omega (arith, l))
 
 small_last : (bits i : ℕ) → 64 ≤ 2 ^ (bits - 1) → (v : ℕ) × (last_biased bits i ≡ Some v)
 small_last bits i wide = by (cases_lt i 64)
@@ -565,17 +562,15 @@ module _ {bytes : List ℕ} {code next : ℕ} {rest behind : List ℕ} (two : Ar
   unfolding is_common operator forms constant_i64
   constant64_of left e = constant_of 0x42 I64Const 64 (pos 0) left (common_there code Constant64 e) (λ types bs. refl) (λ n cx. refl)
 
-  pub constant32_like : Constant32 ≡ get_or kinds code Rare → next < 128 → BeginLike bytes (Numeric (I32Const (pos 0))) behind
-  constant32_like e l = constant32_of behind e (one_signed 32 (omega arith) l)
+  near_signed : (bits : ℕ) (left : List ℕ) → 7 < bits → 64 ≤ 2 ^ (bits - 1) → 64 ≤ 2 ^ (bits - 7 - 1) → EndsNear next behind left → (n : ℤ) × (signed bits rest ≡ Some (n, left))
+  near_signed bits left more wide wide_too (inl e) = subst (λ bs. (n : ℤ) × (signed bits rest ≡ Some (n, bs))) (sym e.1) (one_signed bits wide e.0)
+  near_signed bits left more wide wide_too (inr e) = two_signed bits e.1.0 left more wide_too e.0 e.1.1 e.1.2
 
-  pub constant32_long : Constant32 ≡ get_or kinds code Rare → (last : ℕ) (left : List ℕ) → 128 ≤ next → last < 128 → behind ≡ last ∷ left → BeginLike bytes (Numeric (I32Const (pos 0))) left
-  constant32_long e last left long short is = constant32_of left e (two_signed 32 last left (omega arith) (omega arith) long short is)
+  pub constant32_near : Constant32 ≡ get_or kinds code Rare → (left : List ℕ) → EndsNear next behind left → BeginLike bytes (Numeric (I32Const (pos 0))) left
+  constant32_near e left ends = constant32_of left e (near_signed 32 left (omega arith) (omega arith) (omega arith) ends)
 
-  pub constant64_like : Constant64 ≡ get_or kinds code Rare → next < 128 → BeginLike bytes (Numeric (I64Const (pos 0))) behind
-  constant64_like e l = constant64_of behind e (one_signed 64 (omega arith) l)
-
-  pub constant64_long : Constant64 ≡ get_or kinds code Rare → (last : ℕ) (left : List ℕ) → 128 ≤ next → last < 128 → behind ≡ last ∷ left → BeginLike bytes (Numeric (I64Const (pos 0))) left
-  constant64_long e last left long short is = constant64_of left e (two_signed 64 last left (omega arith) (omega arith) long short is)
+  pub constant64_near : Constant64 ≡ get_or kinds code Rare → (left : List ℕ) → EndsNear next behind left → BeginLike bytes (Numeric (I64Const (pos 0))) left
+  constant64_near e left ends = constant64_of left e (near_signed 64 left (omega arith) (omega arith) (omega arith) ends)
 
   opener_like : (c : ℕ) (op : ControlOp) → nat_eq code c ≡ true → ((types : CanonicalTypes) (bs : List ℕ) → operator types (c ∷ 0x40 ∷ bs) ≡ Some (unplaced (Control op), bs)) → nat_eq next 0x40 ≡ true → BeginLike bytes (Control op) behind
   opener_like c op e read empty = moved (Control op) behind (subst (λ n. BeginLike (n ∷ rest) (Control op) behind) (sym (eqb-true code c e)) (record {
@@ -583,18 +578,6 @@ module _ {bytes : List ℕ} {code next : ℕ} {rest behind : List ℕ} (two : Ar
     is_read = λ types. ap (λ bs. operator types (c ∷ bs)) (two.goes_on ∙ ap (λ n. n ∷ behind) (eqb-true next 0x40 empty)) ∙ read types behind;
     same_row = λ cx. refl;
   }))
-
-  pub br_like : Br ≡ get_or kinds code Rare → {index : ℕ} → index ≡ next → nat_lt next 128 ≡ true → BeginLike bytes (Control (BrOp index)) behind
-  unfolding is_common operator forms index_op index_ops
-  br_like e same l = index_like 0x0c (λ j. BrOp j) (common_there code Br e) (λ types bs. refl) same l
-
-  pub br_if_like : BrIf ≡ get_or kinds code Rare → {index : ℕ} → index ≡ next → nat_lt next 128 ≡ true → BeginLike bytes (Control (BrIfOp index)) behind
-  unfolding is_common operator forms index_op index_ops
-  br_if_like e same l = index_like 0x0d (λ j. BrIfOp j) (common_there code BrIf e) (λ types bs. refl) same l
-
-  pub call_like : Call ≡ get_or kinds code Rare → {index : ℕ} → index ≡ next → nat_lt next 128 ≡ true → BeginLike bytes (Control (CallOp index)) behind
-  unfolding is_common operator forms index_op index_ops
-  call_like e same l = index_like 0x10 (λ j. CallOp j) (common_there code Call e) (λ types bs. refl) same l
 
   pub local_get_like : LocalGet ≡ get_or kinds code Rare → {index : ℕ} → index ≡ next → nat_lt next 128 ≡ true → BeginLike bytes (Control (LocalGetOp index)) behind
   unfolding is_common operator forms index_op index_ops
@@ -607,14 +590,6 @@ module _ {bytes : List ℕ} {code next : ℕ} {rest behind : List ℕ} (two : Ar
   pub local_tee_like : LocalTee ≡ get_or kinds code Rare → {index : ℕ} → index ≡ next → nat_lt next 128 ≡ true → BeginLike bytes (Control (LocalTeeOp index)) behind
   unfolding is_common operator forms index_op index_ops
   local_tee_like e same l = index_like 0x22 (λ j. LocalTeeOp j) (common_there code LocalTee e) (λ types bs. refl) same l
-
-  pub global_get_like : GlobalGet ≡ get_or kinds code Rare → {index : ℕ} → index ≡ next → nat_lt next 128 ≡ true → BeginLike bytes (Control (GlobalGetOp index)) behind
-  unfolding is_common operator forms index_op index_ops
-  global_get_like e same l = index_like 0x23 (λ j. GlobalGetOp j) (common_there code GlobalGet e) (λ types bs. refl) same l
-
-  pub global_set_like : GlobalSet ≡ get_or kinds code Rare → {index : ℕ} → index ≡ next → nat_lt next 128 ≡ true → BeginLike bytes (Control (GlobalSetOp index)) behind
-  unfolding is_common operator forms index_op index_ops
-  global_set_like e same l = index_like 0x24 (λ j. GlobalSetOp j) (common_there code GlobalSet e) (λ types bs. refl) same l
 
   pub block_like : Block ≡ get_or kinds code Rare → nat_eq next 0x40 ≡ true → BeginLike bytes (Control (BlockOp Empty)) behind
   unfolding is_common operator forms block_op block_type block_ops

@@ -1,5 +1,5 @@
 -- What the operators are that most code is made of, by their first byte (the crate's own).
-use Rattle.std.specs.Prelude.{◌≡◌, ℕ, false, ◌-◌, List, [], ◌∷◌, ◌++◌, ◌<◌, ◌≤◌, Some, drop, length, replicate}
+use Rattle.std.specs.Prelude.{◌≡◌, ◌⊎◌, ℕ, false, ◌-◌, List, [], ◌∷◌, ◌++◌, ◌<◌, ◌≤◌, Some, drop, length, replicate}
 use Rattle.binary_operators.specs.Instructions.{operator}
 use Rattle.binary_operators.specs.Integers.{unsigned}
 use Rattle.binary_operators.specs.Unplaced.{unplaced}
@@ -55,6 +55,11 @@ pub record BeginAs (bytes : List ℕ) (op : Op) (count : ℕ) : Type 0 where
 -- a place in the first memory, with the natural alignment of the operator
 abbrev pub near : ℕ → ℕ → ℕ → MemArg
 near natural align offset = record { align = align; max_align = natural; offset = offset; target = InMemory 0 }
+
+-- a number begins with this byte, and ends with it or with the next one, behind which these are left
+abbrev pub EndsNear : ℕ → List ℕ → List ℕ → Type 0
+EndsNear first rest behind =
+    ((first < 128) × (behind ≡ rest)) ⊎ ((128 ≤ first) × ((last : ℕ) × (last < 128) × (rest ≡ last ∷ behind)))
 
 -- the bytes begin with this place, whose alignment is a byte, and behind it these are left
 pub record IsNear (bytes : List ℕ) (natural : ℕ) (place : MemArg) (behind : List ℕ) : Type 0 where

@@ -15,7 +15,7 @@ ghost use Rattle.validate_visit.specs.declared.op.Op.{Op};
 ghost use Rattle.validate_operators.specs.Validator.{state, stacks_of};
 ghost use Rattle.validate_stacks.specs.Visits.{MayVisit};
 ghost use Rattle.module_check.specs.Turns.{Passes, Turns};
-ghost use Rattle.module_check.specs.FirstBytes.{BeginAs, BeginLike, BeginAccess, IsNear};
+ghost use Rattle.module_check.specs.FirstBytes.{BeginAs, BeginLike, BeginAccess, EndsNear, IsNear};
 
 use crate::first_bytes::Common::{
     Binary32, Binary64, BinaryF32, BinaryF64, Block, Br, BrIf, Call, Compare32, Compare64,
@@ -166,8 +166,21 @@ fn turn_with<R: WasmModuleResources>(
     turn_of_bytes(v, resources, reader, 2, Op::Control(op))
 }
 
-/// The turn of an operator of this code, whose index begins with this byte: it is the one that is handed in, if the byte is
-/// all of the index. An index of two bytes or five is read.
+/// The index that begins with this byte, if it is a byte, two or five. It is read then.
+#[inline(always)]
+fn near_index(reader: &mut BinaryReader<'_>, first: u8) -> Option<u32>
+    requires { reader.old.left ≡ first ∷ drop 1 reader.old.left }
+    ensures { IfSome result (λ index. unsigned 32 reader.old.left ≡ Some (index, reader.new.left)) }
+{
+    if first >= 0x80 {
+        return reader.read_long_u32();
+    }
+    *reader = reader.behind(1);
+    Some(u32::from(first))
+}
+
+/// The turn of an operator of this code, whose index begins with this byte, and is a byte, two or five. It is checked in one
+/// place: a function that checks in two would be too large to be inlined.
 #[inline(always)]
 #[tactic(auto, using(crate::proofs::Turned::not_passed))]
 fn turn_of_index<R: WasmModuleResources>(
@@ -176,19 +189,15 @@ fn turn_of_index<R: WasmModuleResources>(
     reader: &mut BinaryReader<'_>,
     code: u8,
     first: u8,
-    op: ControlOp<'_>,
 ) -> Turn
     requires visit { MayVisit (R.context resources.now) (stacks_of v.old) }
     requires begins { reader.old.left ≡ code ∷ drop 1 reader.old.left }
+    requires next { drop 1 reader.old.left ≡ first ∷ drop 2 reader.old.left }
     requires form { from 0 forms code ≡ Some Index }
-    requires short { first < 128 → BeginAs reader.old.left (Op.Control op) 2 }
     ensures { Turns (R.context resources.now) result reader.old reader.new (stacks_of v.old) (stacks_of v.new) }
 {
-    if first < 0x80 {
-        return turn_of_bytes(v, resources, reader, 2, Op::Control(op));
-    }
     let mut rest = reader.behind(1);
-    let Some(index) = rest.read_long_u32() else {
+    let Some(index) = near_index(&mut rest, first) else {
         return Turn::NotPassed;
     };
     match indexed(code, index) {
@@ -197,8 +206,22 @@ fn turn_of_index<R: WasmModuleResources>(
     }
 }
 
-/// The turn of a constant, whose number begins with this byte: its row is that of the one that is handed in. The number is
-/// two bytes at the most.
+/// Whether a number that begins with this byte is two bytes at the most. What is behind the first one is read, if more is.
+#[inline(always)]
+fn is_near(rest: &mut BinaryReader<'_>, first: u8) -> bool
+    ensures { result ≡ true → EndsNear first rest.old.left rest.new.left }
+{
+    if first < 0x80 {
+        return true;
+    }
+    match rest.read_u8() {
+        Ok(last) => last < 0x80,
+        Err(_) => false,
+    }
+}
+
+/// The turn of a constant, whose number begins with this byte, and is two bytes at the most: its row is that of the one that is
+/// handed in.
 #[inline(always)]
 #[tactic(auto, using(crate::proofs::Turned::not_passed))]
 fn turn_of_constant<R: WasmModuleResources>(
@@ -210,19 +233,12 @@ fn turn_of_constant<R: WasmModuleResources>(
 ) -> Turn
     requires visit { MayVisit (R.context resources.now) (stacks_of v.old) }
     requires there { 2 ≤ length reader.old.left }
-    requires short { first < 128 → BeginAs reader.old.left (Op.Numeric op) 2 }
-    requires long { (last : ℕ) (behind : List ℕ) → 128 ≤ first → last < 128
-        → drop 2 reader.old.left ≡ last ∷ behind → BeginLike reader.old.left (Op.Numeric op) behind }
+    requires like { (behind : List ℕ) → EndsNear first (drop 2 reader.old.left) behind
+        → BeginLike reader.old.left (Op.Numeric op) behind }
     ensures { Turns (R.context resources.now) result reader.old reader.new (stacks_of v.old) (stacks_of v.new) }
 {
-    if first < 0x80 {
-        return turn_of_bytes(v, resources, reader, 2, Op::Numeric(op));
-    }
     let mut rest = reader.behind(2);
-    let Ok(last) = rest.read_u8() else {
-        return Turn::NotPassed;
-    };
-    if last >= 0x80 {
+    if !is_near(&mut rest, first) {
         return Turn::NotPassed;
     }
     open_turn(v, resources, reader, rest, Op::Numeric(op))
@@ -413,28 +429,14 @@ pub(crate) fn common_turn<R: WasmModuleResources>(
         BinaryF64 => turn_of_bytes(v, resources, reader, 1, float_binary(FloatType::F64)),
         Constant32 => turn_of_constant(v, resources, reader, next, NumericOp::I32Const(0)),
         Constant64 => turn_of_constant(v, resources, reader, next, NumericOp::I64Const(0)),
-        Br => turn_of_index(v, resources, reader, 0x0c, next, ControlOp::Br(index)),
-        BrIf => turn_of_index(v, resources, reader, 0x0d, next, ControlOp::BrIf(index)),
-        Call => turn_of_index(v, resources, reader, 0x10, next, ControlOp::Call(index)),
+        Br => turn_of_index(v, resources, reader, 0x0c, next),
+        BrIf => turn_of_index(v, resources, reader, 0x0d, next),
+        Call => turn_of_index(v, resources, reader, 0x10, next),
         LocalGet => turn_with(v, resources, reader, is_index, ControlOp::LocalGet(index)),
         LocalSet => turn_with(v, resources, reader, is_index, ControlOp::LocalSet(index)),
         LocalTee => turn_with(v, resources, reader, is_index, ControlOp::LocalTee(index)),
-        GlobalGet => turn_of_index(
-            v,
-            resources,
-            reader,
-            0x23,
-            next,
-            ControlOp::GlobalGet(index),
-        ),
-        GlobalSet => turn_of_index(
-            v,
-            resources,
-            reader,
-            0x24,
-            next,
-            ControlOp::GlobalSet(index),
-        ),
+        GlobalGet => turn_of_index(v, resources, reader, 0x23, next),
+        GlobalSet => turn_of_index(v, resources, reader, 0x24, next),
         Block => turn_with(v, resources, reader, is_empty, ControlOp::Block(Empty)),
         Loop => turn_with(v, resources, reader, is_empty, ControlOp::Loop(Empty)),
         If => turn_with(v, resources, reader, is_empty, ControlOp::If(Empty)),

@@ -1,11 +1,10 @@
 -- What the first bytes tell is what the bytes begin with.
 use Rattle.std.proofs.Common.{refl, sym, subst}
-use Rattle.std.proofs.lemmas.Bool.{lt-ltb}
 use Rattle.binary_operators.specs.Unread.{Unread}
 use Rattle.validate_visit.specs.declared.op.ControlOp.TheVariants.{End}
 use Rattle.validate_visit.specs.declared.op.Op.TheVariants.{Control}
 use Rattle.module_check.specs.FirstBytes.{BeginAs, BeginLike}
-use Rattle.module_check.proofs.FirstBytes.{has_one, has_two, two_of, of_one, of_both, nop_like, end_like, return_like, drop_like, select_like, test32_like, compare32_like, compare64_like, binary32_like, binary64_like, binary_f32_like, binary_f64_like, constant32_like, constant32_long, constant64_like, constant64_long, br_begun, br_like, br_if_begun, br_if_like, call_begun, call_like, local_get_like, local_set_like, local_tee_like, global_get_begun, global_get_like, global_set_begun, global_set_like, block_like, loop_like, if_like, load32_like, load64_like, load_f32_like, load_f64_like, store32_like, store64_like, store_f32_like, store_f64_like}
+use Rattle.module_check.proofs.FirstBytes.{has_one, has_two, two_of, of_one, of_both, nop_like, end_like, return_like, drop_like, select_like, test32_like, compare32_like, compare64_like, binary32_like, binary64_like, binary_f32_like, binary_f64_like, constant32_near, constant64_near, br_begun, br_if_begun, call_begun, local_get_like, local_set_like, local_tee_like, global_get_begun, global_set_begun, block_like, loop_like, if_like, load32_like, load64_like, load_f32_like, load_f64_like, store32_like, store64_like, store_f32_like, store_f64_like}
 use Rattle.module_check.proofs.common.common_turn.Goals as goal
 
 pub turn_of_bytes-requires-clause-like : goal.turn_of_bytes-requires-clause-like
@@ -50,20 +49,14 @@ turn_of_bytes-requires-in-BinaryF64-clause-like g c = subst (λ o. BeginAs c.arg
 pub turn_of_constant-requires-clause-there : goal.turn_of_constant-requires-clause-there
 turn_of_constant-requires-clause-there g c = has_two c.in-Some.ensures.next
 
-pub turn_of_constant-requires-clause-short : goal.turn_of_constant-requires-clause-short
-turn_of_constant-requires-clause-short g c = λ short. of_both refl c.in-Some.ensures.next (λ two. constant32_like two c.in-Constant32.ensures short)
-
-pub turn_of_constant-requires-clause-long : goal.turn_of_constant-requires-clause-long
-turn_of_constant-requires-clause-long g c = constant32_long (two_of c.in-Some.ensures.next) c.in-Constant32.ensures
+pub turn_of_constant-requires-clause-like : goal.turn_of_constant-requires-clause-like
+turn_of_constant-requires-clause-like g c = λ behind ends. constant32_near (two_of c.in-Some.ensures.next) c.in-Constant32.ensures behind ends
 
 pub turn_of_constant-requires-in-Constant64-clause-there : goal.turn_of_constant-requires-in-Constant64-clause-there
 turn_of_constant-requires-in-Constant64-clause-there g c = has_two c.in-Some.ensures.next
 
-pub turn_of_constant-requires-in-Constant64-clause-short : goal.turn_of_constant-requires-in-Constant64-clause-short
-turn_of_constant-requires-in-Constant64-clause-short g c = λ short. of_both refl c.in-Some.ensures.next (λ two. constant64_like two c.in-Constant64.ensures short)
-
-pub turn_of_constant-requires-in-Constant64-clause-long : goal.turn_of_constant-requires-in-Constant64-clause-long
-turn_of_constant-requires-in-Constant64-clause-long g c = constant64_long (two_of c.in-Some.ensures.next) c.in-Constant64.ensures
+pub turn_of_constant-requires-in-Constant64-clause-like : goal.turn_of_constant-requires-in-Constant64-clause-like
+turn_of_constant-requires-in-Constant64-clause-like g c = λ behind ends. constant64_near (two_of c.in-Some.ensures.next) c.in-Constant64.ensures behind ends
 
 pub turn_of_index-requires-clause-begins : goal.turn_of_index-requires-clause-begins
 turn_of_index-requires-clause-begins g c = (br_begun (two_of c.in-Some.ensures.next) c.in-Br.ensures).0
@@ -71,8 +64,8 @@ turn_of_index-requires-clause-begins g c = (br_begun (two_of c.in-Some.ensures.n
 pub turn_of_index-requires-clause-form : goal.turn_of_index-requires-clause-form
 turn_of_index-requires-clause-form g c = (br_begun (two_of c.in-Some.ensures.next) c.in-Br.ensures).1
 
-pub turn_of_index-requires-clause-short : goal.turn_of_index-requires-clause-short
-turn_of_index-requires-clause-short g c = λ short. of_both refl c.in-Some.ensures.next (λ two. br_like two c.in-Br.ensures c.from-index.ensures (lt-ltb _ 128 short))
+pub turn_of_index-requires-clause-next : goal.turn_of_index-requires-clause-next
+turn_of_index-requires-clause-next g c = (two_of c.in-Some.ensures.next).goes_on
 
 pub turn_of_index-requires-in-BrIf-clause-begins : goal.turn_of_index-requires-in-BrIf-clause-begins
 turn_of_index-requires-in-BrIf-clause-begins g c = (br_if_begun (two_of c.in-Some.ensures.next) c.in-BrIf.ensures).0
@@ -80,8 +73,8 @@ turn_of_index-requires-in-BrIf-clause-begins g c = (br_if_begun (two_of c.in-Som
 pub turn_of_index-requires-in-BrIf-clause-form : goal.turn_of_index-requires-in-BrIf-clause-form
 turn_of_index-requires-in-BrIf-clause-form g c = (br_if_begun (two_of c.in-Some.ensures.next) c.in-BrIf.ensures).1
 
-pub turn_of_index-requires-in-BrIf-clause-short : goal.turn_of_index-requires-in-BrIf-clause-short
-turn_of_index-requires-in-BrIf-clause-short g c = λ short. of_both refl c.in-Some.ensures.next (λ two. br_if_like two c.in-BrIf.ensures c.from-index.ensures (lt-ltb _ 128 short))
+pub turn_of_index-requires-in-BrIf-clause-next : goal.turn_of_index-requires-in-BrIf-clause-next
+turn_of_index-requires-in-BrIf-clause-next g c = (two_of c.in-Some.ensures.next).goes_on
 
 pub turn_of_index-requires-in-Call-clause-begins : goal.turn_of_index-requires-in-Call-clause-begins
 turn_of_index-requires-in-Call-clause-begins g c = (call_begun (two_of c.in-Some.ensures.next) c.in-Call.ensures).0
@@ -89,8 +82,8 @@ turn_of_index-requires-in-Call-clause-begins g c = (call_begun (two_of c.in-Some
 pub turn_of_index-requires-in-Call-clause-form : goal.turn_of_index-requires-in-Call-clause-form
 turn_of_index-requires-in-Call-clause-form g c = (call_begun (two_of c.in-Some.ensures.next) c.in-Call.ensures).1
 
-pub turn_of_index-requires-in-Call-clause-short : goal.turn_of_index-requires-in-Call-clause-short
-turn_of_index-requires-in-Call-clause-short g c = λ short. of_both refl c.in-Some.ensures.next (λ two. call_like two c.in-Call.ensures c.from-index.ensures (lt-ltb _ 128 short))
+pub turn_of_index-requires-in-Call-clause-next : goal.turn_of_index-requires-in-Call-clause-next
+turn_of_index-requires-in-Call-clause-next g c = (two_of c.in-Some.ensures.next).goes_on
 
 pub turn_of_index-requires-in-GlobalGet-clause-begins : goal.turn_of_index-requires-in-GlobalGet-clause-begins
 turn_of_index-requires-in-GlobalGet-clause-begins g c = (global_get_begun (two_of c.in-Some.ensures.next) c.in-GlobalGet.ensures).0
@@ -98,8 +91,8 @@ turn_of_index-requires-in-GlobalGet-clause-begins g c = (global_get_begun (two_o
 pub turn_of_index-requires-in-GlobalGet-clause-form : goal.turn_of_index-requires-in-GlobalGet-clause-form
 turn_of_index-requires-in-GlobalGet-clause-form g c = (global_get_begun (two_of c.in-Some.ensures.next) c.in-GlobalGet.ensures).1
 
-pub turn_of_index-requires-in-GlobalGet-clause-short : goal.turn_of_index-requires-in-GlobalGet-clause-short
-turn_of_index-requires-in-GlobalGet-clause-short g c = λ short. of_both refl c.in-Some.ensures.next (λ two. global_get_like two c.in-GlobalGet.ensures c.from-index.ensures (lt-ltb _ 128 short))
+pub turn_of_index-requires-in-GlobalGet-clause-next : goal.turn_of_index-requires-in-GlobalGet-clause-next
+turn_of_index-requires-in-GlobalGet-clause-next g c = (two_of c.in-Some.ensures.next).goes_on
 
 pub turn_of_index-requires-in-GlobalSet-clause-begins : goal.turn_of_index-requires-in-GlobalSet-clause-begins
 turn_of_index-requires-in-GlobalSet-clause-begins g c = (global_set_begun (two_of c.in-Some.ensures.next) c.in-GlobalSet.ensures).0
@@ -107,8 +100,8 @@ turn_of_index-requires-in-GlobalSet-clause-begins g c = (global_set_begun (two_o
 pub turn_of_index-requires-in-GlobalSet-clause-form : goal.turn_of_index-requires-in-GlobalSet-clause-form
 turn_of_index-requires-in-GlobalSet-clause-form g c = (global_set_begun (two_of c.in-Some.ensures.next) c.in-GlobalSet.ensures).1
 
-pub turn_of_index-requires-in-GlobalSet-clause-short : goal.turn_of_index-requires-in-GlobalSet-clause-short
-turn_of_index-requires-in-GlobalSet-clause-short g c = λ short. of_both refl c.in-Some.ensures.next (λ two. global_set_like two c.in-GlobalSet.ensures c.from-index.ensures (lt-ltb _ 128 short))
+pub turn_of_index-requires-in-GlobalSet-clause-next : goal.turn_of_index-requires-in-GlobalSet-clause-next
+turn_of_index-requires-in-GlobalSet-clause-next g c = (two_of c.in-Some.ensures.next).goes_on
 
 pub turn_with-requires-clause-like : goal.turn_with-requires-clause-like
 turn_with-requires-clause-like g c = λ short. of_both refl c.in-Some.ensures.next (λ two. local_get_like two c.in-LocalGet.ensures c.from-index.ensures short)

@@ -23,7 +23,6 @@ CHOICES = (
 # What common operators of whole bodies are read and checked by, in the library.
 TURNS = (
     "common_turn",
-    "turn_of_index",
     "turn_of_constant",
     "turn_of_load",
     "turn_of_store",

@@ -2,9 +2,10 @@
 use Rattle.std.proofs.Common.{◌≡◌, ◌≢◌, ◌≤◌, ℕ, zero, suc, true, false, List, Result, Ok, Err, IfOk, IfErr, OnOk, OnErr, inl, inr, nat_eq, nat_le, eq-eqb, leb-true, ap, ◌∙◌, sym, refl, subst, arith}
 use borrow.Author.Tests.{clash}
 use Rattle.std.specs.Prelude.{◌⊎◌, MatchResult}
-use Rattle.module_check.specs.Verdicts.{status_of, IsCovered, SaysNo}
+use Rattle.module_check.specs.Verdicts.{status_of, IsConsistent, IsCovered, SaysNo}
 use Rattle.module_check.specs.declared.load_refusal.LoadRefusal.{LoadRefusal}
 use Rattle.module_check.specs.declared.load_refusal.LoadRefusal.TheVariants.{Judged, TooLarge}
+use Rattle.module_check.specs.declared.module_verdict.ModuleVerdict.{ModuleVerdict}
 use Rattle.module_check.specs.declared.verdict.Verdict.{Verdict}
 use Rattle.module_check.specs.declared.verdict.Verdict.TheVariants.{Accepted, Refused, Malformed, NotCovered, OutOfMemory}
 use Rattle.validate_types.specs.declared.error.Error.{Error}
@@ -206,3 +207,18 @@ wanting (suc (suc (suc zero))) v is some invalid malformed uncovered large (inl 
 wanting (suc (suc (suc (suc n)))) v is some invalid malformed uncovered large (inl few) =
     let four : suc (suc (suc (suc n))) ≡ 4 = omega (arith, few) in
     absurd (other_load (Judged (NotCovered (uncovered four).0)) v is (uncovered four).1 (λ e. cc))
+
+-- want of memory is told consistently
+pub out_of_memory_told : (room : ℕ) (v : ModuleVerdict) → v.status ≡ 3 → v.text_length ≤ room → IsConsistent room v
+out_of_memory_told room v three fits = record {
+  accepted = λ zero. absurd (apart zero three refl);
+  refused = λ one. absurd (apart one three refl);
+  malformed = λ two. absurd (apart two three refl);
+  not_covered = λ four. absurd (apart four three refl);
+  text_fits = fits;
+}
+
+-- what holds, holds where there is a refusal
+pub on_refusal : {A E : Type 0} → (r : Result A E) (P : Type 0) → P → OnErr r P
+on_refusal (Ok x) P p = tt
+on_refusal (Err e) P p = p

@@ -1,6 +1,6 @@
 -- A function that is begun over a module, in a handle.
-use Rattle.std.proofs.Common.{◌≡◌, ℕ, List, None, Some, Result, Ok, Err, IfOk, sym, ap, ◌∙◌, subst}
-use Rattle.std.specs.Prelude.{MatchResult}
+use Rattle.std.proofs.Common.{◌≡◌, ℕ, List, Option, None, Some, Result, Ok, Err, IfOk, sym, ap, ◌∙◌, subst}
+use Rattle.std.specs.Prelude.{MatchResult, IfSome}
 use Rattle.module_check.specs.declared.verdict.Verdict.{Verdict}
 use Rattle.binary_operators.specs.declared.types.CanonicalTypes.{CanonicalTypes}
 use Rattle.module_check.specs.Begin.{DefinesRead}
@@ -20,6 +20,7 @@ use Rattle.c_api.specs.FunctionCalls.{OnFunction}
 use Rattle.c_api.specs.Functions.{InProgress, IsBegun, module_under}
 use Rattle.c_api.specs.Handle.{MaybeKept}
 use Rattle.c_api.specs.Modules.{context_in, features_in, module_of}
+use Rattle.c_api.specs.declared.body_calls.BodyPlace.{BodyPlace}
 use Rattle.c_api.specs.declared.kept.Kept.TheVariants.{Module, Function}
 use Rattle.c_api.specs.declared.shared.HeldModule.{HeldModule}
 use Rattle.c_api.specs.declared.shared.HeldModule.TheVariants.{Whole, Declared}
@@ -51,6 +52,15 @@ module _ (s : SharedModule) (v : BodyState) (index first behind : ℕ) where
   body_begun (Some (Module x)) starts k = absurd k
   body_begun (Some (Function f)) starts k = over_whole f (module_of s) (λ i. module_of s) k starts
 
+  -- and of one that was kept, if there was memory for it
+  pub place_begun : (r : Option BodyPlace) (o : MaybeKept) (status : ℕ) → OnWhole (module_of s) (λ m. StartsBody m index first behind v) → IfSome r (λ p. (status ≡ 0) × (p.first ≡ first) × (p.behind ≡ behind) × OnFunction o (λ f. f ≡ function_from s v)) → IfSome r (λ p. (status ≡ 0) × OnWhole (module_of s) (λ m. OnFunction o (IsBodyBegun m index p.first p.behind)))
+  place_begun None o status starts k = tt
+  place_begun (Some p) o status starts k = (
+    k.0,
+    subst (λ (n : ℕ). OnWhole (module_of s) (λ m. OnFunction o (IsBodyBegun m index n p.behind))) (sym k.1)
+    (subst (λ (n : ℕ). OnWhole (module_of s) (λ m. OnFunction o (IsBodyBegun m index first n))) (sym k.2) (body_begun o starts k.3)),
+  )
+
 -- the lookup is what the module declares
 module _ (m : LoadedModule) (md : ModuleContext) (is : md ≡ declared m) where
   pub starting_in : (v : BodyState) → IsStarting md v → IsStarting (declared m) v
@@ -73,19 +83,22 @@ module _ (m : LoadedModule) (md : ModuleContext) (is : md ≡ declared m) where
     all_with_locals (Ok w) fs on ty types bytes behind v made defined = starts_with_locals fs on ty types bytes behind v (state w) made defined
     all_with_locals (Err e) fs on ty types bytes behind v made defined = tt
 
--- it starts in the module's lookup, under its proposals
-module _ (s : SharedModule) (md : ModuleContext) (is : md ≡ context_in (module_of s)) where
-  pub starting_over : (v : BodyState) → IsStarting md v → IsStarting (context_in (module_of s)) v
+-- a body starts in the lookup of the module that is held, under its proposals
+module _ (h : HeldModule) (md : ModuleContext) (is : md ≡ context_in h) where
+  pub starting_over : (v : BodyState) → IsStarting md v → IsStarting (context_in h) v
   starting_over v starts = subst (λ (x : ModuleContext). IsStarting x v) is starts
 
-  module _ (fs : WasmFeatures) (on : fs ≡ features_in (module_of s)) (kind : BodyKind) where
-    pub kind_begun : (v : BodyState) (f : InProgress) → f ≡ function_from s v → IsBodyStart md fs kind v → IsBegun (module_of s) kind f
-    kind_begun v f e made = record {
-      is_module = ap module_under e;
-      is_start = e ∙ sym (ap (λ (g : InProgress). function_from g.resources g.starting) e);
-      of_kind = subst (λ (x : BodyState). IsBodyStart (context_in (module_of s)) (features_in (module_of s)) kind x) (sym (ap (λ (g : InProgress). g.starting) e))
-          (subst (λ (x : WasmFeatures). IsBodyStart (context_in (module_of s)) x kind v) on (subst (λ (x : ModuleContext). IsBodyStart x fs kind v) is made));
-    }
+  module _ (fs : WasmFeatures) (on : fs ≡ features_in h) (kind : BodyKind) where
+    pub made_over : (v : BodyState) → IsBodyStart md fs kind v → IsBodyStart (context_in h) (features_in h) kind v
+    made_over v made = subst (λ (x : WasmFeatures). IsBodyStart (context_in h) x kind v) on (subst (λ (x : ModuleContext). IsBodyStart x fs kind v) is made)
 
-    pub cannot_start : CannotStart md fs kind → CannotStart (context_in (module_of s)) (features_in (module_of s)) kind
-    cannot_start cannot = subst (λ (x : WasmFeatures). CannotStart (context_in (module_of s)) x kind) on (subst (λ (x : ModuleContext). CannotStart x fs kind) is cannot)
+    pub cannot_start : CannotStart md fs kind → CannotStart (context_in h) (features_in h) kind
+    cannot_start cannot = subst (λ (x : WasmFeatures). CannotStart (context_in h) x kind) on (subst (λ (x : ModuleContext). CannotStart x fs kind) is cannot)
+
+-- so does the function over a share of it
+pub kind_begun : (s : SharedModule) (kind : BodyKind) (v : BodyState) (f : InProgress) → f ≡ function_from s v → IsBodyStart (context_in (module_of s)) (features_in (module_of s)) kind v → IsBegun (module_of s) kind f
+kind_begun s kind v f e made = record {
+  is_module = ap module_under e;
+  is_start = e ∙ sym (ap (λ (g : InProgress). function_from g.resources g.starting) e);
+  of_kind = subst (λ (x : BodyState). IsBodyStart (context_in (module_of s)) (features_in (module_of s)) kind x) (sym (ap (λ (g : InProgress). g.starting) e)) made;
+}

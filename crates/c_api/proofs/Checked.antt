@@ -1,6 +1,6 @@
 -- What a status says of a module in a handle, by what there is to check.
-use Rattle.std.proofs.Common.{◌≡◌, ◌≢◌, ◌≤◌, ℕ, None, Some, inl, inr, refl, sym, ◌∙◌, subst, arith}
-use Rattle.std.specs.Prelude.{◌⊎◌, ◌↔◌}
+use Rattle.std.proofs.Common.{◌≡◌, ◌≢◌, ◌≤◌, ℕ, false, Option, None, Some, inl, inr, refl, sym, ◌∙◌, subst, arith}
+use Rattle.std.specs.Prelude.{◌⊎◌, ◌↔◌, is_some, IfSome, OnSome}
 use Rattle.module_check.proofs.Begun.{none_or_some}
 use Rattle.module_check.specs.FaultyModule.{HasInvalid, HasMalformed, IsMalformedFunction, IsRefusedFunction}
 use Rattle.module_check.specs.Items.{item_count}
@@ -18,7 +18,7 @@ use Rattle.c_api.specs.Modules.{module_of}
 use Rattle.c_api.specs.declared.kept.Kept.TheVariants.{Module, Function}
 use Rattle.c_api.specs.declared.shared.HeldModule.{HeldModule}
 use Rattle.c_api.specs.declared.shared.HeldModule.TheVariants.{Whole, Declared}
-use Rattle.c_api.proofs.Answered.{apart, not_zero, not_three}
+use Rattle.c_api.proofs.Answered.{apart, not_both as not_both_marks, not_zero, not_three}
 
 on_held : (o : MaybeKept) (h : HeldModule) → OnHeld o (λ i. i ≡ h) → (P : HeldModule → Type 0) → P h → OnHeld o P
 on_held None h is P p = absurd is
@@ -66,6 +66,11 @@ not_both (Some (Function f)) none P p = p
 -- where there is no body, none is accepted
 pub not_accepted : (m : LoadedModule) (function : ℕ) → HasNoBody (Whole m) function → ¬ IsAcceptedFunction m function
 not_accepted m function none accepted = none_or_some accepted.body (sym (none accepted.is_body.is_own) ∙ accepted.is_body.is_body)
+
+-- it has none, or has one, which says that it is its own
+pub has_none : {B : Type 0} → (r : Option B) (P : B → Type 0) (own none : Type 0) → IfSome r P → OnSome r own → (r ≡ None → own → none) → ((b : B) → P b → none → ⊥) → (is_some r ≡ false ↔ (own → none))
+has_none None P own none found is_own missing other = (λ _. missing refl, λ _. refl)
+has_none (Some b) P own none found is_own missing other = (λ e. absurd (not_both_marks e), λ h. absurd (other b found (h is_own)))
 
 says_no : (s : ℕ) → (s ≡ 1) ⊎ (s ≡ 2) → SaysNo s
 says_no s d = (λ z. not_zero s z d, λ z. not_three s z d)

@@ -1,6 +1,6 @@
 //! The call of C that begins the body of a module's function, and those of names.
 
-ghost use Rattle.std.specs.Prelude.{◌≡◌, ◌≢◌, ◌≤◌, ◌↔◌, true, false, length, None, IfOk, IfErr, IfSome};
+ghost use Rattle.std.specs.Prelude.{◌≡◌, ◌≢◌, ◌≤◌, ◌⊎◌, ◌↔◌, true, false, length, None, IfOk, IfErr, IfSome};
 ghost use Rattle.module_check.specs.Begin.{DefinesRead};
 ghost use Rattle.module_check.specs.Loaded.{declared};
 ghost use Rattle.module_check.specs.Refusals.{IsVector};
@@ -68,7 +68,10 @@ fn with_locals(
 {
     match code.define_locals(&mut v, resources) {
         Ok(()) => Ok(v),
-        Err(error) => Err(error),
+        Err(error) => {
+            drop(v);
+            Err(error)
+        }
     }
 }
 
@@ -151,6 +154,38 @@ struct BodyPlace {
     behind: u64,
 }
 
+/// Puts the function over a share of a module whose body starts so into a handle, and answers where its operators stand;
+/// or notes that there is no memory for that: then the handle stays as it was.
+fn keep_body(
+    alloc: Global,
+    shared: SharedModule,
+    start: BodyStart,
+    item: Option<Item>,
+    function: &mut Handle,
+    text: &mut [u8],
+    out: &mut ModuleVerdict,
+) -> Option<BodyPlace>
+    requires starting { IsStarting (context_in (module_of «shared»)) (state start.validator) }
+    requires consistent { IsConsistent (length text.old) out.old }
+    requires first { out.old.status ≡ 0 }
+    ensures consistent { IsConsistent (length text.new) out.new }
+    ensures kept { IfSome result (λ p. (out.new.status ≡ 0) × (p.first ≡ start.first) × (p.behind ≡ start.behind)
+        × OnFunction function.new.held (λ f. f ≡ function_from «shared» (state start.validator))) }
+    ensures missing { result ≡ None → (out.new.status ≡ 3) × (function.new.held ≡ function.old.held) }
+    ensures known { (out.new.status ≡ 0) ⊎ (out.new.status ≡ 3) }
+{
+    let BodyStart {
+        validator,
+        first,
+        behind,
+    } = start;
+    if keep_start(alloc, shared, validator, function) {
+        return Some(BodyPlace { first, behind });
+    }
+    out.report(OUT_OF_MEMORY, item, 0, "out of memory", text);
+    None
+}
+
 /// Begins the function at this index over a share of a module, if that has a body for it which begins, and answers where
 /// its operators stand; else it notes why not, and the handle stays as it was.
 fn begin_shared(
@@ -177,20 +212,10 @@ fn begin_shared(
         return None;
     }
     match start_held(alloc, &shared.held, index) {
-        Ok(start) => {
-            let BodyStart {
-                validator,
-                first,
-                behind,
-            } = start;
-            if keep_start(alloc, shared, validator, function) {
-                return Some(BodyPlace { first, behind });
-            }
-            out.report(OUT_OF_MEMORY, item, 0, "out of memory", text);
-            None
-        }
+        Ok(start) => keep_body(alloc, shared, start, item, function, text, out),
         Err(verdict) => {
             out.note(&verdict, item, text);
+            drop(verdict);
             None
         }
     }

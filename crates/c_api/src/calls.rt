@@ -87,6 +87,28 @@ fn note_refusal(refusal: &LoadRefusal, text: &mut [u8], out: &mut ModuleVerdict)
     }
 }
 
+/// Checks each body and each constant expression of a module, and notes what they come to.
+fn check_whole(
+    alloc: Global,
+    module: &LoadedModule<'_>,
+    text: &mut [u8],
+    out: &mut ModuleVerdict,
+)
+    requires { IsConsistent (length text.old) out.old }
+    ensures consistent { IsConsistent (length text.new) out.new }
+    ensures accepted { out.new.status ≡ 0 → IsValid «module».now }
+    ensures refused { SaysNo out.new.status → SaysNo out.old.status ⊎ ¬ IsAcceptedModule «module».now }
+    ensures known { out.old.status ≤ 4 → out.new.status ≤ 4 }
+    ensures counted { out.new.status ≢ 3 → total out.old ≡ 0 → total out.new ≡ item_count «module».now }
+    ensures uncovered { out.new.status ≡ 4 → (out.old.status ≡ 4) ⊎ HasUncovered «module».now }
+    ensures malformed { out.new.status ≡ 2 → (out.old.status ≡ 2) ⊎ HasMalformed «module».now }
+    ensures invalid { out.new.status ≡ 1 → (out.old.status ≡ 1) ⊎ HasInvalid «module».now }
+{
+    let mut buffers = BodyBuffers::new(alloc);
+    check_module(module, &mut buffers, text, out);
+    drop(buffers);
+}
+
 /// Checks a module that was read, or notes why it wasn't.
 fn check_read(
     alloc: Global,
@@ -111,7 +133,7 @@ fn check_read(
     ensures known { out.old.status ≤ 4 → (out.new.status ≤ 4) ⊎ (out.new.status ≡ 7) }
 {
     match read {
-        Ok(module) => check_module(module, &mut BodyBuffers::new(alloc), text, out),
+        Ok(module) => check_whole(alloc, module, text, out),
         Err(refusal) => note_refusal(refusal, text, out),
     }
 }
@@ -144,7 +166,9 @@ pub fn validate(
     ensures known { (result ≤ 4) ⊎ (result ≡ 7) }
 {
     *out = ModuleVerdict::new();
-    check_read(alloc, &read(alloc, bytes, features), text, out);
+    let loaded = read(alloc, bytes, features);
+    check_read(alloc, &loaded, text, out);
+    drop(loaded);
     status_of(out)
 }
 
@@ -166,7 +190,10 @@ pub(crate) fn keep(alloc: Global, kept: Kept, handle: &mut Handle) -> bool
             handle.put(alloc, kept);
             true
         }
-        Err(_) => false,
+        Err(failed) => {
+            drop(failed);
+            false
+        }
     }
 }
 
@@ -274,7 +301,10 @@ fn keep_new(alloc: Global, module: HeldModule, handle: &mut Handle) -> bool
 {
     match Arc::new(alloc, module) {
         Ok(held) => keep(alloc, Kept::Module(SharedModule { held }), handle),
-        Err(_) => false,
+        Err(failed) => {
+            drop(failed);
+            false
+        }
     }
 }
 
@@ -447,8 +477,11 @@ fn check_one(
 {
     let item = Some(Item::Function(function));
     if has_own_body(module, function) {
-        let verdict = module.check_function(function, &mut BodyBuffers::new(alloc));
+        let mut buffers = BodyBuffers::new(alloc);
+        let verdict = module.check_function(function, &mut buffers);
+        drop(buffers);
         out.note(&verdict, item, text);
+        drop(verdict);
     } else {
         report_no_body(item, text, out);
     }
@@ -482,9 +515,7 @@ fn check_all_kept(alloc: Global, kept: &Option<Box<Kept>>, text: &mut [u8], out:
     ensures answer { total out.old ≡ 0 → ModuleAnswer (held_in kept.now) out.new.status out.new }
 {
     match found_in(kept) {
-        Found::Bodies(loaded) => {
-            check_module(loaded, &mut BodyBuffers::new(alloc), text, out);
-        }
+        Found::Bodies(loaded) => check_whole(alloc, loaded, text, out),
         Found::NoBodies => report_no_body(None, text, out),
         Found::NoModule => report_no_module(text, out),
     }
@@ -505,8 +536,9 @@ fn check_from_kept(
 {
     match found_in(kept) {
         Found::Bodies(loaded) => {
-            let buffers = &mut BodyBuffers::new(alloc);
-            check_from(loaded, position, buffers, text, out);
+            let mut buffers = BodyBuffers::new(alloc);
+            check_from(loaded, position, &mut buffers, text, out);
+            drop(buffers);
         }
         Found::NoBodies => report_no_body(None, text, out),
         Found::NoModule => report_no_module(text, out),

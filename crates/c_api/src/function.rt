@@ -2,23 +2,25 @@
 
 ghost use Rattle.std.specs.Prelude.{◌≡◌, ◌≢◌, ◌↔◌, ℕ, true, false, [], Some, None, length, slice_get, option_map, IsOk, IsSome, OnOk, OnErr, IfOk, IfErr, IfSome};
 ghost use Rattle.binary_operators.specs.declared.error.Cause.TheVariants.{OutOfMemory as NoMemory, VectorOperator};
+ghost use Rattle.module_check.specs.Refusals.{IsRefusal, IsVector};
 ghost use Rattle.module_check.specs.Verdicts.{IsCovered};
 ghost use Rattle.module_check.specs.declared.verdict.Verdict.TheVariants.{Accepted, NotCovered, OutOfMemory};
 ghost use Rattle.c_api.specs.Functions.{module_under, IsBegun, Takes, CannotTake, IsUncoveredOperator};
 ghost use Rattle.c_api.specs.Modules.{module_of, context_in, features_in, AreTypesIn};
 ghost use Rattle.c_api.specs.Shown.{shown_type, shown_operand, shown_frame};
-ghost use Rattle.validate_operators.specs.Begin.{CannotStart};
+ghost use Rattle.validate_operators.specs.Begin.{CannotStart, IsBodyStart};
 ghost use Rattle.validate_operators.specs.Runs.{IsAcceptedBody, IsSafe};
 ghost use Rattle.validate_operators.specs.Start.{DefinesLocals, CannotDefine};
 ghost use Rattle.validate_operators.specs.Validator.{state};
 ghost use Rattle.wasmparser_validate.specs.Functions.{function_from, body_state, Fails};
 ghost use Rattle.validate_stacks.specs.State.{IsStarting};
 ghost use Rattle.validate_stacks.specs.Steps.{type_at_depth, frame_at};
+ghost use Rattle.validate_types.specs.Features.{has, simd};
 ghost use Rattle.validation_rules.specs.Static.{operand_count, frame_count};
 
 use crate::accepted::AcceptedOperators;
 use crate::on_refusal::OnRefusal;
-use crate::shared::SharedModule;
+use crate::shared::{HeldModule, SharedModule};
 use crate::shown::{ShownFrame, ShownType};
 use crate::visits::Visits;
 use binary_operators::ReadError;
@@ -69,12 +71,9 @@ impl FunctionInProgress {
             → CannotStart (context_in (module_of «module»)) (features_in (module_of «module»)) kind) }
         ensures covered { IfErr result IsCovered }
     {
-        let features = module.held.features();
-        let buffers = OperatorValidatorAllocations::new(alloc);
-        let mut validator = OperatorValidator::new(&features, buffers);
-        match validator.start_body(module.held.resources(), &features, kind, 0) {
-            Ok(()) => Ok(FunctionInProgress::of_start(alloc, module, validator)),
-            Err(refusal) => Err(Verdict::of_refusal(refusal)),
+        match start(alloc, &module.held, kind) {
+            Ok(validator) => Ok(FunctionInProgress::of_start(alloc, module, validator)),
+            Err(verdict) => Err(verdict),
         }
     }
 
@@ -166,28 +165,16 @@ impl FunctionInProgress {
         ensures back { on_refusal ≡ OnRefusal.LeaveNoTrace → OnErr result (self.new ≡ self.old) }
         ensures had_failed { self.old.failed ≡ true → self.new ≡ self.old }
     {
-        let is_open = self.has_open_frame();
         if self.failed {
             return Err(Verdict::Refused(has_failed(offset)));
         }
-        if !is_open {
-            let verdict = Verdict::Refused(is_closed(offset));
-            self.failed = on_refusal.fails_at(&verdict);
-            return Err(verdict);
-        }
-        let held = &self.module.held;
-        match self.visits.visit(held, bytes, offset, on_refusal) {
+        match self.visits.visit_open(&self.module.held, bytes, offset, on_refusal) {
             Ok(taken) => {
                 self.has_operators = true;
                 Ok(taken)
             }
-            Err(CheckError::Unread(error)) => {
-                let verdict = unread(alloc, error, offset).under(&self.module.held.features());
-                self.failed = on_refusal.fails_at(&verdict);
-                Err(verdict)
-            }
-            Err(CheckError::Refused(refusal)) => {
-                let verdict = Verdict::of_refusal(refusal);
+            Err(error) => {
+                let verdict = verdict_on(alloc, &self.module.held, error, offset);
                 self.failed = on_refusal.fails_at(&verdict);
                 Err(verdict)
             }
@@ -277,6 +264,30 @@ impl FunctionInProgress {
     }
 }
 
+/// The validator of a body of this kind over a module, as the body starts.
+fn start(
+    alloc: Global,
+    held: &HeldModule,
+    kind: BodyKind,
+) -> Result<OperatorValidator, Verdict>
+    ensures starting { IfOk result (λ v. IsStarting (context_in held.now) (state v)) }
+    ensures made { IfOk result (λ v. IsBodyStart (context_in held.now) (features_in held.now) kind (state v)) }
+    ensures refused { IfErr result (λ verdict. verdict ≢ Accepted) }
+    ensures cannot { IfErr result (λ verdict. verdict ≢ OutOfMemory
+        → CannotStart (context_in held.now) (features_in held.now) kind) }
+    ensures covered { IfErr result IsCovered }
+{
+    let features = held.features();
+    let mut validator = OperatorValidator::new(&features, OperatorValidatorAllocations::new(alloc));
+    match validator.start_body(held.resources(), &features, kind, 0) {
+        Ok(()) => Ok(validator),
+        Err(refusal) => {
+            drop(validator);
+            Err(Verdict::of_refusal(refusal))
+        }
+    }
+}
+
 /// The innermost frame, which is open.
 fn innermost_frame(v: &OperatorValidator) -> Frame
     requires { IsSome (frame_at (state v.now) 0) }
@@ -302,16 +313,22 @@ fn unread(alloc: Global, error: ReadError, offset: u64) -> Verdict
     Verdict::of_read_error_in(alloc, placed)
 }
 
+/// The verdict on what stands at this offset, which isn't accepted for this.
+fn verdict_on(alloc: Global, held: &HeldModule, error: CheckError, offset: u64) -> Verdict
+    ensures not_accepted { result ≢ Accepted }
+    ensures memory { result ≢ OutOfMemory → IsRefusal error }
+    ensures vector { (at : ℕ) → result ≡ NotCovered at → IsVector error }
+    ensures proposal { (at : ℕ) → result ≡ NotCovered at → has (features_in held.now) simd ≡ true }
+{
+    match error {
+        CheckError::Unread(error) => unread(alloc, error, offset).under(&held.features()),
+        CheckError::Refused(refusal) => Verdict::of_refusal(refusal),
+    }
+}
+
 /// An operator was refused before.
 fn has_failed(offset: u64) -> Error
     ensures { result.wants_memory ≡ false }
 {
     Error::new("function validator has failed", offset)
-}
-
-/// No frame is open.
-fn is_closed(offset: u64) -> Error
-    ensures { result.wants_memory ≡ false }
-{
-    Error::new("operators remaining after end of function", offset)
 }

@@ -100,7 +100,10 @@ pub(crate) fn keep_begun(
                 out.report(OUT_OF_MEMORY, None, 0, "out of memory", text);
             }
         }
-        Err(verdict) => out.note(&verdict, None, text),
+        Err(verdict) => {
+            out.note(&verdict, None, text);
+            drop(verdict);
+        }
     }
 }
 
@@ -209,7 +212,10 @@ fn note_taken(
 {
     match answer {
         Ok(count) => *taken = count,
-        Err(verdict) => out.note(&verdict, None, text),
+        Err(verdict) => {
+            out.note(&verdict, None, text);
+            drop(verdict);
+        }
     }
 }
 
@@ -399,6 +405,7 @@ fn note_done(answer: Result<(), Verdict>, text: &mut [u8], out: &mut ModuleVerdi
 {
     if let Err(verdict) = answer {
         out.note(&verdict, None, text);
+        drop(verdict);
     }
 }
 

@@ -1,6 +1,6 @@
 //! A body that is validated as its bytes come.
 
-ghost use Rattle.std.specs.Prelude.{◌≡◌, ◌≢◌, None, OnErr, IfOk, IfErr, IfSome};
+ghost use Rattle.std.specs.Prelude.{◌≡◌, ◌≢◌, ℕ, false, [], None, OnErr, IfOk, IfErr, IfSome};
 ghost use Rattle.binary_operators.specs.Vectors.{BeginVector};
 ghost use Rattle.binary_operators.specs.declared.error.Cause.TheVariants.{OutOfMemory, VectorOperator};
 ghost use Rattle.module_check.specs.Refusals.{IsRefusal, IsVector};
@@ -178,4 +178,38 @@ impl Visits {
         self.accepted = self.accepted.and(&op, &offset);
         Ok(taken)
     }
+
+    /// The same of a body that may have no frame open: then the operator is refused.
+    pub(crate) fn visit_open(
+        &mut self,
+        module: &HeldModule,
+        bytes: &[u8],
+        offset: u64,
+        on_refusal: OnRefusal,
+    ) -> Result<usize, CheckError>
+        requires idle { (state self.old.validator).undone ≡ None }
+        requires valid { IsValidBody (context_in module.now) (state self.old.validator) }
+        ensures accepted { IfOk result (λ taken. IsVisited module.now bytes.now offset taken self.old self.new) }
+        ensures refused { IfErr result (λ e. IsRefusal e → (state self.old.validator).present.frames ≢ []
+            → HasNoRow module.now bytes.now (state self.old.validator)) }
+        ensures uncovered { IfErr result (λ e. IsVector e → BeginVector bytes.now) }
+        ensures is_open { IfErr result (λ e. IsVector e → (state self.old.validator).present.frames ≢ []) }
+        ensures unread { IfErr result (λ e. IsUnread e → IsUnvisited self.old self.new) }
+        ensures back { on_refusal ≡ OnRefusal.LeaveNoTrace → OnErr result (IsUnvisited self.old self.new) }
+        ensures list { OnErr result (self.new.accepted ≡ self.old.accepted) }
+        ensures valid { IsValidBody (context_in module.now) (state self.new.validator) }
+        ensures kept { IsKept (state self.old.validator) (state self.new.validator) }
+    {
+        if self.validator.control_stack_height() == 0 {
+            return Err(CheckError::Refused(is_closed(offset)));
+        }
+        self.visit(module, bytes, offset, on_refusal)
+    }
+}
+
+/// No frame is open.
+fn is_closed(offset: u64) -> Error
+    ensures { result.wants_memory ≡ false }
+{
+    Error::new("operators remaining after end of function", offset)
 }

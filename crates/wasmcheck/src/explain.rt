@@ -1,5 +1,7 @@
 //! What is shown of the operators of a body: all of them, or what stands behind a refusal.
 
+ghost use Rattle.validate_resources.specs.Kept.{declared_lists};
+ghost use Rattle.validate_resources.specs.Lists.{context_of};
 ghost use Rattle.validate_operators.specs.Validator.{state};
 ghost use Rattle.validate_stacks.specs.State.{IsStarting};
 
@@ -13,7 +15,7 @@ use crate::written::Written;
 use module_check::{LoadedModule, Verdict};
 use std::io;
 use validate_operators::OperatorValidator;
-use validate_resources::WasmModuleResources;
+use validate_resources::ModuleLists;
 use validate_stacks::OperatorValidatorAllocations;
 use validate_types::{Error, WasmFeatures};
 
@@ -74,9 +76,9 @@ fn ended(walked: Result<(), Stop>) -> io::Result<()> {
 }
 
 /// Adds what stands behind the refusal of a body, if that is asked for.
-fn add_scene<R: WasmModuleResources>(
+fn add_scene(
     v: &OperatorValidator,
-    resources: &R,
+    resources: &ModuleLists,
     code: &Code<'_>,
     asked: Asked<'_>,
     walk: &mut Walk<'_>,
@@ -96,14 +98,14 @@ fn add_scene<R: WasmModuleResources>(
 }
 
 /// Walks through a body by its validator, which is new, and adds its operators, and what is asked beside.
-fn add_body<R: WasmModuleResources>(
+fn add_body(
     v: &mut OperatorValidator,
-    resources: &R,
+    resources: &ModuleLists,
     code: &mut Code<'_>,
     asked: Asked<'_>,
     walk: &mut Walk<'_>,
 ) -> Result<(), Stop>
-    requires { IsStarting (R.context resources.now) (state v.old) }
+    requires { IsStarting (context_of (declared_lists resources.now)) (state v.old) }
 {
     let walked = walk_through(v, resources, &mut code.reader, walk);
     walk.listing.end();
@@ -112,9 +114,9 @@ fn add_body<R: WasmModuleResources>(
 }
 
 /// Begins a body by its validator, which is new, and adds what is asked of it: nothing, where its locals are refused.
-fn add_from_begin<R: WasmModuleResources>(
+fn add_from_begin(
     v: &mut OperatorValidator,
-    resources: &R,
+    resources: &ModuleLists,
     features: &WasmFeatures,
     code: &mut Code<'_>,
     asked: Asked<'_>,
@@ -125,8 +127,8 @@ fn add_from_begin<R: WasmModuleResources>(
 }
 
 /// Adds what is asked of a body, in a validator of its own.
-fn add_code<R: WasmModuleResources>(
-    resources: &R,
+fn add_code(
+    resources: &ModuleLists,
     features: &WasmFeatures,
     code: &mut Code<'_>,
     asked: Asked<'_>,

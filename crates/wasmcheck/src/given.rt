@@ -1,6 +1,6 @@
 //! How many operands an operator gives: what lies on top behind it, it has pushed.
 
-use validate_resources::WasmModuleResources;
+use validate_resources::{ModuleLists, WasmModuleResources};
 use validate_resources::kinds::func_type_of;
 use validate_visit::{
     ArrayOp, AtomicOp, ContinuationOp, ControlOp, ExceptionOp, Exchange, FieldAccess, MemoryOp,
@@ -25,7 +25,7 @@ pub enum Given {
 }
 
 /// How many results the function type at this index has.
-fn results_of<R: WasmModuleResources>(resources: &R, type_index: u32) -> Given {
+fn results_of(resources: &ModuleLists, type_index: u32) -> Given {
     match resources.sub_type_at(type_index) {
         Some(sub_type) => match func_type_of(sub_type) {
             Some(func_type) => Given::Operands(func_type.results().len()),
@@ -36,7 +36,7 @@ fn results_of<R: WasmModuleResources>(resources: &R, type_index: u32) -> Given {
 }
 
 /// How many results the function at this index has.
-fn results_of_function<R: WasmModuleResources>(resources: &R, function: u32) -> Given {
+fn results_of_function(resources: &ModuleLists, function: u32) -> Given {
     match resources.type_index_of_function(function) {
         Some(ty) => results_of(resources, ty),
         None => Given::Unknown,
@@ -44,7 +44,7 @@ fn results_of_function<R: WasmModuleResources>(resources: &R, function: u32) -> 
 }
 
 /// The same of an operator on control.
-fn given_by_control<R: WasmModuleResources>(resources: &R, op: &ControlOp<'_>) -> Given {
+fn given_by_control(resources: &ModuleLists, op: &ControlOp<'_>) -> Given {
     match op {
         ControlOp::Block(_) | ControlOp::Loop(_) | ControlOp::If(_) => Given::Opened,
         ControlOp::Else => Given::Begun,
@@ -194,7 +194,7 @@ fn given_by_shared(op: &SharedOp) -> Given {
 }
 
 /// Which of the operands behind an operator, which was accepted, it has pushed.
-pub fn given_by<R: WasmModuleResources>(resources: &R, op: &Op<'_>) -> Given {
+pub fn given_by(resources: &ModuleLists, op: &Op<'_>) -> Given {
     match op {
         Op::Control(op) => given_by_control(resources, op),
         Op::Numeric(op) => given_by_numeric(*op),

@@ -138,6 +138,12 @@ fn greatest_label(op: &Op<'_>) -> Option<u32> {
     }
 }
 
+/// Puts an offset behind the last ones, the first of which goes.
+fn push(last: &mut [u64; LAST], place: u64) {
+    let [_, b, c, d, e, f, g, h] = *last;
+    *last = [b, c, d, e, f, g, h, place];
+}
+
 impl Code<'_> {
     /// Passes over the locals, if there are some.
     fn skip_locals(&mut self) -> Result<(), ReadError> {
@@ -148,6 +154,14 @@ impl Code<'_> {
             let _group = self.reader.read_group()?;
         }
         Ok(())
+    }
+
+    /// Passes over an operator.
+    fn skip_operator(&mut self, lists: &mut OperatorLists) -> Result<(), ReadError> {
+        match self.reader.read_operator(lists) {
+            Ok(_) => Ok(()),
+            Err(error) => Err(error),
+        }
     }
 
     /// Whether an operator begins at the offset. It leaves the offsets of the last ones before, as many as there is room for.
@@ -163,9 +177,8 @@ impl Code<'_> {
             if place >= offset {
                 break;
             }
-            let _op = self.reader.read_operator(lists)?;
-            let [_, b, c, d, e, f, g, h] = *last;
-            *last = [b, c, d, e, f, g, h, place];
+            self.skip_operator(lists)?;
+            push(last, place);
         }
         Ok(self.reader.offset() == offset && !self.reader.is_at_end())
     }
@@ -179,8 +192,10 @@ impl Code<'_> {
         if !matches!(refusal.reason(), Some(Refusal::UnknownLabel)) {
             return Ok(None);
         }
-        let op = self.reader.read_operator(lists)?;
-        Ok(greatest_label(&op))
+        match self.reader.read_operator(lists) {
+            Ok(op) => Ok(greatest_label(&op)),
+            Err(error) => Err(error),
+        }
     }
 
     /// The operator that is refused, if the refusal is about one: these are the module's bytes.

@@ -9,18 +9,18 @@ use crate::type_names::add_type;
 use crate::written::Written;
 use crate::{json, text};
 use validate_operators::OperatorValidator;
-use validate_resources::WasmModuleResources;
+use validate_resources::ModuleLists;
 use validate_stacks::blocks::{params, results};
 use validate_types::{MaybeType, Refusal, ValType};
 use validate_visit::{BodyKind, Frame, FrameKind};
 
 /// A body before the operator that is refused.
 #[derive(Drop)]
-pub struct Scene<'s, R> {
+pub struct Scene<'s> {
     /// Its validator.
     pub v: &'s OperatorValidator,
     /// The lookup.
-    pub resources: &'s R,
+    pub resources: &'s ModuleLists,
     /// Where the operands come from.
     pub origins: &'s Origins,
     /// The module's bytes.
@@ -112,7 +112,7 @@ fn is_end(name: &str) -> bool {
     matches!(name, "end" | "else" | "catch" | "catch_all" | "delegate")
 }
 
-impl<R: WasmModuleResources> Scene<'_, R> {
+impl Scene<'_> {
     /// How many operands the innermost part has.
     fn own_count(&self) -> usize {
         let height = self.v.operand_stack_height();
@@ -359,7 +359,7 @@ fn add_part_object(out: &mut Written, part: &ShownPart<'_>) {
     });
 }
 
-impl<R: WasmModuleResources> Scene<'_, R> {
+impl Scene<'_> {
     /// Whether the operand at this depth is shown: those on top are, and one that doesn't fit.
     fn is_shown(&self, depth: usize) -> bool {
         depth < SHOWN || !matches!(self.fit_at(depth), Fit::Fits)

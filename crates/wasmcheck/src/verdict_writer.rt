@@ -124,6 +124,21 @@ fn write_refusal<W: Write>(
     lines.write_finding(out, &finding_of_module(outcome, verdict, &shown))
 }
 
+/// Writes why the module as a whole isn't checked, and that it comes to this, which it answers.
+fn write_as<W: Write>(
+    out: &mut W,
+    lines: Lines<'_>,
+    detail: Detail,
+    outcome: Outcome,
+    verdict: &Verdict,
+) -> io::Result<Outcome>
+    ensures { IfOk result (λ told. told ≡ outcome) }
+{
+    write_refusal(out, lines, detail, outcome, verdict)?;
+    write_summary(out, lines, detail, outcome, None)?;
+    Ok(outcome)
+}
+
 /// Writes why the module as a whole isn't checked, and what it comes to, which it answers.
 pub fn write_module<W: Write>(
     out: &mut W,
@@ -135,9 +150,7 @@ pub fn write_module<W: Write>(
     ensures verdict { IfOk result (λ outcome. outcome ≡ outcome_of verdict.now) }
 {
     let outcome = Outcome::of(verdict);
-    write_refusal(out, lines, detail, outcome, verdict)?;
-    write_summary(out, lines, detail, outcome, None)?;
-    Ok(outcome)
+    write_as(out, lines, detail, outcome, verdict)
 }
 
 /// Writes which limit the module is past, and what it comes to, which it answers.
@@ -149,8 +162,6 @@ pub fn write_too_large<W: Write>(
 ) -> io::Result<Outcome>
     ensures { IfOk result (λ outcome. outcome ≡ TooLarge) }
 {
-    let outcome = Outcome::TooLarge;
-    write_refusal(out, lines, detail, outcome, &Verdict::Refused(error))?;
-    write_summary(out, lines, detail, outcome, None)?;
-    Ok(outcome)
+    let verdict = Verdict::Refused(error);
+    write_as(out, lines, detail, Outcome::TooLarge, &verdict)
 }

@@ -1,6 +1,8 @@
 //! A body that is walked through once more, operator by operator, to show what lies on its stacks.
 
 ghost use Rattle.std.specs.Prelude.{◌≡◌, None, OnOk};
+ghost use Rattle.validate_resources.specs.Kept.{declared_lists};
+ghost use Rattle.validate_resources.specs.Lists.{context_of};
 ghost use Rattle.validate_operators.specs.Validator.{state};
 ghost use Rattle.validate_stacks.specs.State.{IsStarting, IsValidBody};
 
@@ -11,7 +13,7 @@ use crate::origins::Origins;
 use module_check::{CheckError, CodeReader, OperatorLists, ReadError, Verdict};
 use std::alloc::Global;
 use validate_operators::OperatorValidator;
-use validate_resources::WasmModuleResources;
+use validate_resources::ModuleLists;
 use validate_types::{Error, OutOfMemory, WasmFeatures};
 use validate_visit::{BodyKind, Frame};
 
@@ -75,10 +77,10 @@ pub struct Walk<'w> {
 
 impl Walk<'_> {
     /// Notes and writes an operator that was accepted.
-    fn note<R: WasmModuleResources>(
+    fn note(
         &mut self,
         v: &OperatorValidator,
-        resources: &R,
+        resources: &ModuleLists,
         shown: ShownOperator<'_, '_>,
         before: Frame,
     ) -> Result<(), Stop> {
@@ -90,13 +92,13 @@ impl Walk<'_> {
 }
 
 /// Begins the body that this code is of in a validator that is new, with its locals.
-pub fn begin<R: WasmModuleResources>(
+pub fn begin(
     v: &mut OperatorValidator,
-    resources: &R,
+    resources: &ModuleLists,
     features: &WasmFeatures,
     code: &mut Code<'_>,
 ) -> Result<(), Stop>
-    ensures { OnOk result (IsStarting (R.context resources.now) (state v.new)) }
+    ensures { OnOk result (IsStarting (context_of (declared_lists resources.now)) (state v.new)) }
 {
     v.start_body(resources, features, code.kind, code.reader.offset())?;
     if let BodyKind::Function(_) = code.kind {
@@ -106,44 +108,45 @@ pub fn begin<R: WasmModuleResources>(
 }
 
 /// Reads an operator, and checks it.
-fn step<R: WasmModuleResources>(
+fn step(
     v: &mut OperatorValidator,
-    resources: &R,
+    resources: &ModuleLists,
     code: &mut CodeReader<'_>,
     lists: &mut OperatorLists,
     walk: &mut Walk<'_>,
 ) -> Result<(), Stop>
-    requires valid { IsValidBody (R.context resources.now) (state v.old) }
+    requires valid { IsValidBody (context_of (declared_lists resources.now)) (state v.old) }
     requires idle { (state v.old).undone ≡ None }
-    ensures valid { IsValidBody (R.context resources.now) (state v.new) }
+    ensures valid { IsValidBody (context_of (declared_lists resources.now)) (state v.new) }
     ensures idle { (state v.new).undone ≡ None }
 {
     let offset = code.offset();
-    if v.control_stack_height() == 0 {
-        return Err(Stop::Refusal);
-    }
     let before = match v.get_frame(0) {
         Some(frame) => *frame,
         None => return Err(Stop::Refusal),
     };
-    let op = code.read_operator(lists)?;
-    v.check_ref(resources, offset, &op)?;
-    let shown = ShownOperator {
-        offset,
-        name: name_at(walk.bytes, offset).unwrap_or("?"),
-        op: &op,
-    };
-    walk.note(v, resources, shown, before)
+    match code.read_operator(lists) {
+        Ok(op) => {
+            v.check_ref(resources, offset, &op)?;
+            let shown = ShownOperator {
+                offset,
+                name: name_at(walk.bytes, offset).unwrap_or("?"),
+                op: &op,
+            };
+            walk.note(v, resources, shown, before)
+        }
+        Err(error) => Err(Stop::from(error)),
+    }
 }
 
 /// Walks through operators, up to the end of the walk or of the code, or to one that isn't accepted.
-pub fn walk_through<R: WasmModuleResources>(
+pub fn walk_through(
     v: &mut OperatorValidator,
-    resources: &R,
+    resources: &ModuleLists,
     code: &mut CodeReader<'_>,
     walk: &mut Walk<'_>,
 ) -> Result<(), Stop>
-    requires { IsStarting (R.context resources.now) (state v.old) }
+    requires { IsStarting (context_of (declared_lists resources.now)) (state v.old) }
 {
     let mut lists = OperatorLists::new(walk.alloc);
     for _ in 0..code.bytes_left() {

@@ -13,28 +13,28 @@ use Rattle.c_api.proofs.calls.validate.Goals as goal
 pub returns-clause-valid : goal.returns-clause-valid
 returns-clause-valid c = λ z.
     let status = sym c.status_of.ensures ∙ z in
-    read_valid c.args.bytes.now c.args.features c.read.result c.read.ensures.loaded (c.check_read.ensures.read status) (c.check_read.ensures.valid status)
+    read_valid c.args.bytes.now c.args.features c.read-loaded.result c.read-loaded.ensures.loaded (c.check_read.ensures.read status) (c.check_read.ensures.valid status)
 
 pub returns-clause-uncovered : goal.returns-clause-uncovered
 returns-clause-uncovered c = λ four.
     elim (c.check_read.ensures.uncovered (sym c.status_of.ensures ∙ four)) [
       | inl before ↦ absurd (not_before c.new.result.status c.new.ensures.accepted before)
-      | inr this ↦ read_uncovered c.args.bytes.now c.args.features c.read.result c.read.ensures.loaded c.read.ensures.uncovered this
+      | inr this ↦ read_uncovered c.args.bytes.now c.args.features c.read-loaded.result c.read-loaded.ensures.loaded c.read-loaded.ensures.uncovered this
     ]
 
 pub returns-clause-too_large : goal.returns-clause-too_large
 returns-clause-too_large c = λ seven.
-    read_too_large c.args.bytes.now c.read.result c.read.ensures.too_large
+    read_too_large c.args.bytes.now c.read-loaded.result c.read-loaded.ensures.too_large
     (c.check_read.ensures.too_large c.new.ensures.accepted (sym c.status_of.ensures ∙ seven))
 
 pub returns-clause-malformed : goal.returns-clause-malformed
 returns-clause-malformed c = λ two.
-    read_malformed c.args.bytes.now c.args.features c.read.result c.read.ensures.loaded c.read.ensures.malformed
+    read_malformed c.args.bytes.now c.args.features c.read-loaded.result c.read-loaded.ensures.loaded c.read-loaded.ensures.malformed
     (c.check_read.ensures.malformed c.new.ensures.accepted (sym c.status_of.ensures ∙ two))
 
 pub returns-clause-invalid : goal.returns-clause-invalid
 returns-clause-invalid c = λ one.
-    read_invalid c.args.bytes.now c.args.features c.read.result c.read.ensures.loaded c.read.ensures.invalid
+    read_invalid c.args.bytes.now c.args.features c.read-loaded.result c.read-loaded.ensures.loaded c.read-loaded.ensures.invalid
     (c.check_read.ensures.invalid c.new.ensures.accepted (sym c.status_of.ensures ∙ one))
 
 refused_there : (features : ModuleFeatures) (bytes : List ℕ) (status : ℕ) → (status ≡ 1 → AreInvalid features bytes) → (status ≡ 2 → AreMalformed features bytes) → (status ≡ 1) ⊎ (status ≡ 2) → AreNoValidModule features bytes
@@ -56,7 +56,7 @@ returns-clause-complete c =
     elim (c.check_read.ensures.uncovered (s ∙ four)) [
       | inl first ↦ absurd (not_before c.new.result.status before first)
       | inr found ↦
-          read_no_valid c.args.bytes.now c.args.features c.read.result c.read.ensures.loaded c.read.ensures.unread
+          read_no_valid c.args.bytes.now c.args.features c.read-loaded.result c.read-loaded.ensures.loaded c.read-loaded.ensures.unread
           (c.check_read.ensures.refused before (four_says_no c.check_read.new.out.status (s ∙ four))) found
     ])
     (returns-clause-too_large c) known

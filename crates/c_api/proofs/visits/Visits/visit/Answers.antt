@@ -1,5 +1,5 @@
 -- What is looked up is what the module declares.
-use Rattle.std.proofs.Common.{Ok, Err, sym, subst}
+use Rattle.std.proofs.Common.{Ok, Err, refl, sym, subst}
 use Rattle.std.proofs.lemmas.Result.{err_from_is_err_and}
 use Rattle.validate_operators.proofs.Listed.{not_visited}
 use Rattle.validate_operators.specs.Validator.{state, stacks_of}
@@ -7,6 +7,7 @@ use Rattle.validate_stacks.specs.State.{IsValidBody}
 use Rattle.validate_stacks.specs.Visits.{Meets, MayVisit}
 use Rattle.validation_rules.specs.Operators.{operator}
 use Rattle.c_api.specs.Modules.{context_in}
+use Rattle.c_api.proofs.Answered.{on_refusal}
 use Rattle.c_api.proofs.Readings.{no_row}
 use Rattle.c_api.proofs.visits.Visits.visit.Goals as goal
 
@@ -36,3 +37,10 @@ returns-clause-accepted c = record {
 
 pub returns-clause-valid : goal.returns-clause-valid
 returns-clause-valid c = subst (λ md. IsValidBody md (state c.check_operator.new.v)) c.resources-resources.ensures c.check_operator.ensures.valid
+
+pub returns-in_err-check_operator-clause-list : goal.returns-in_err-check_operator-clause-list
+returns-in_err-check_operator-clause-list c = on_refusal c.from_residual-in_err-check_operator.result _ refl
+
+pub returns-in_err-check_operator-clause-back : goal.returns-in_err-check_operator-clause-back
+returns-in_err-check_operator-clause-back c = λ is.
+    on_refusal c.from_residual-in_err-check_operator.result _ (record { same_state = c.in_err-check_operator.ensures.back is; same_list = refl })

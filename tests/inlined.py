@@ -41,7 +41,7 @@ INLINED = CHOICES + (
     "exchange_known_at_once",
 )
 # It is called: where it has no name, functions have no names.
-CALLED = "find_by_call"
+CALLED = "expect_by_call"
 
 
 def look(tally, name, text, looked_for):

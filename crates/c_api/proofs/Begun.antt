@@ -58,7 +58,7 @@ module _ (s : SharedModule) (v : BodyState) (index first behind : ℕ) where
   place_begun (Some p) o status starts k = (
     k.0,
     subst (λ (n : ℕ). OnWhole (module_of s) (λ m. OnFunction o (IsBodyBegun m index n p.behind))) (sym k.1)
-    (subst (λ (n : ℕ). OnWhole (module_of s) (λ m. OnFunction o (IsBodyBegun m index first n))) (sym k.2) (body_begun o starts k.3)),
+        (subst (λ (n : ℕ). OnWhole (module_of s) (λ m. OnFunction o (IsBodyBegun m index first n))) (sym k.2) (body_begun o starts k.3)),
   )
 
 -- the lookup is what the module declares

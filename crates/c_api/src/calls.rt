@@ -88,12 +88,7 @@ fn note_refusal(refusal: &LoadRefusal, text: &mut [u8], out: &mut ModuleVerdict)
 }
 
 /// Checks each body and each constant expression of a module, and notes what they come to.
-fn check_whole(
-    alloc: Global,
-    module: &LoadedModule<'_>,
-    text: &mut [u8],
-    out: &mut ModuleVerdict,
-)
+fn check_whole(alloc: Global, module: &LoadedModule<'_>, text: &mut [u8], out: &mut ModuleVerdict)
     requires { IsConsistent (length text.old) out.old }
     ensures consistent { IsConsistent (length text.new) out.new }
     ensures accepted { out.new.status ≡ 0 → IsValid «module».now }

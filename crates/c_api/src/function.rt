@@ -168,7 +168,10 @@ impl FunctionInProgress {
         if self.failed {
             return Err(Verdict::Refused(has_failed(offset)));
         }
-        match self.visits.visit_open(&self.module.held, bytes, offset, on_refusal) {
+        match self
+            .visits
+            .visit_open(&self.module.held, bytes, offset, on_refusal)
+        {
             Ok(taken) => {
                 self.has_operators = true;
                 Ok(taken)
@@ -265,11 +268,7 @@ impl FunctionInProgress {
 }
 
 /// The validator of a body of this kind over a module, as the body starts.
-fn start(
-    alloc: Global,
-    held: &HeldModule,
-    kind: BodyKind,
-) -> Result<OperatorValidator, Verdict>
+fn start(alloc: Global, held: &HeldModule, kind: BodyKind) -> Result<OperatorValidator, Verdict>
     ensures starting { IfOk result (λ v. IsStarting (context_in held.now) (state v)) }
     ensures made { IfOk result (λ v. IsBodyStart (context_in held.now) (features_in held.now) kind (state v)) }
     ensures refused { IfErr result (λ verdict. verdict ≢ Accepted) }
@@ -283,7 +282,7 @@ fn start(
         Ok(()) => Ok(validator),
         Err(refusal) => {
             drop(validator);
-            Err(Verdict::of_refusal(refusal))
+            Err(Verdict::of_error(refusal))
         }
     }
 }
@@ -322,7 +321,7 @@ fn verdict_on(alloc: Global, held: &HeldModule, error: CheckError, offset: u64) 
 {
     match error {
         CheckError::Unread(error) => unread(alloc, error, offset).under(&held.features()),
-        CheckError::Refused(refusal) => Verdict::of_refusal(refusal),
+        CheckError::Refused(refusal) => Verdict::of_error(refusal),
     }
 }
 

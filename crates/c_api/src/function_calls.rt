@@ -424,7 +424,7 @@ fn define_shown(
     match shown.value_type(function.types()) {
         Ok(ty) => match function.define_locals(count, ty, offset) {
             Ok(()) => Ok(()),
-            Err(refusal) => Err(Verdict::of_refusal(refusal)),
+            Err(refusal) => Err(Verdict::of_error(refusal)),
         },
         Err(fault) => Err(no_type(fault, offset)),
     }
@@ -494,7 +494,7 @@ fn finished(function: &FunctionInProgress, offset: u64) -> Result<(), Verdict>
 {
     match function.finish(offset) {
         Ok(()) => Ok(()),
-        Err(refusal) => Err(Verdict::of_refusal(refusal)),
+        Err(refusal) => Err(Verdict::of_error(refusal)),
     }
 }
 

@@ -11,7 +11,7 @@ use Rattle.validation_rules.specs.Fits.{MaybeType}
 use Rattle.validation_rules.specs.Operators.{operator}
 use Rattle.validation_rules.specs.Order.{nesting_of}
 use Rattle.validation_rules.specs.Rows.{Operator, Row, Form, Stays, Opens, BeginsElse, BeginsCatch, Ends, Delegates}
-use Rattle.validate_stacks.specs.AtOnce.{MeetsAtOnce}
+use Rattle.validate_stacks.specs.AtOnce.{MeetsOrUnchanged}
 use Rattle.validate_stacks.specs.Attempts.{Stacked}
 use Rattle.validate_stacks.specs.State.{BodyState, body_context}
 use Rattle.validate_stacks.specs.Visits.{step_body, MayVisit, Meets}
@@ -54,11 +54,11 @@ module _ (md : ModuleContext) where
     meets = subst (λ (f : Context → Operator). Meets md f 0 v (Ok tt) w) (sym (λ i cx. like.same_row cx i)) m;
   }
 
-  pub at_once : (op : Op) (r s : Unread) (v w : Stacked) (b : Bool) → BeginLike r.left op s.left → MeetsAtOnce md (λ cx. operator cx op) v b w → b ≡ true → Passes md true r s v w
+  pub at_once : (op : Op) (r s : Unread) (v w : Stacked) (b : Bool) → BeginLike r.left op s.left → MeetsOrUnchanged md (λ cx. operator cx op) v b w → b ≡ true → Passes md true r s v w
   unfolding Passes
   at_once op r s v w b like m is = turned op r.left s.left v.body w.body like (done_at_once md (λ cx. operator cx op) v w b m is 0)
 
-  pub not_at_once : (op : Op) (r : Unread) (v w : Stacked) (b : Bool) → MeetsAtOnce md (λ cx. operator cx op) v b w → b ≡ false → Passes md false r r v w
+  pub not_at_once : (op : Op) (r : Unread) (v w : Stacked) (b : Bool) → MeetsOrUnchanged md (λ cx. operator cx op) v b w → b ≡ false → Passes md false r r v w
   unfolding Passes
   not_at_once op r v w b m is = (refl, same_at_once md (λ cx. operator cx op) v w b m is)
 
@@ -83,7 +83,7 @@ module _ (md : ModuleContext) where
 
   -- ---- which turn
 
-  pub open_at_once : (op : Op) (v w : Stacked) (b : Bool) → MayVisit md v → is_part_closer (nesting op) ≡ false → MeetsAtOnce md (λ cx. operator cx op) v b w → b ≡ true → w.body.present.frames ≢ []
+  pub open_at_once : (op : Op) (v w : Stacked) (b : Bool) → MayVisit md v → is_part_closer (nesting op) ≡ false → MeetsOrUnchanged md (λ cx. operator cx op) v b w → b ≡ true → w.body.present.frames ≢ []
   open_at_once op v w b may none m is = open_behind (body_context md v.body) op v.body.present w.body.present none may.open_frame (visited md op 0 v.body w.body tt (done_at_once md (λ cx. operator cx op) v w b m is 0))
 
   pub turned_open : (b : Bool) (r s : Unread) (v w : Stacked) → Passes md b r s v w → (b ≡ true → w.body.present.frames ≢ []) → b ≡ true → Turns md Open r s v w

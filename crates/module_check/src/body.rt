@@ -123,6 +123,6 @@ pub fn check_body<R: WasmModuleResources>(
             let checked = check_body_from(validator, context, reader, lists, kind);
             Verdict::of_check_in(alloc, checked).under(context.features)
         }
-        Err(refusal) => Verdict::of_refusal(refusal),
+        Err(refusal) => Verdict::of_error(refusal),
     }
 }

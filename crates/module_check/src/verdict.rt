@@ -163,7 +163,7 @@ impl Verdict {
         match checked {
             Ok(()) => Verdict::Accepted,
             Err(CheckError::Unread(error)) => Verdict::of_read_error(error),
-            Err(CheckError::Refused(refusal)) => Verdict::of_refusal(refusal),
+            Err(CheckError::Refused(refusal)) => Verdict::of_error(refusal),
         }
     }
 
@@ -178,12 +178,12 @@ impl Verdict {
         match checked {
             Ok(()) => Verdict::Accepted,
             Err(CheckError::Unread(error)) => Verdict::of_read_error_in(alloc, error),
-            Err(CheckError::Refused(refusal)) => Verdict::of_refusal(refusal),
+            Err(CheckError::Refused(refusal)) => Verdict::of_error(refusal),
         }
     }
 
     /// The verdict of a refusal: `Refused`, unless memory ran out.
-    pub fn of_refusal(refusal: Error) -> Verdict
+    pub fn of_error(refusal: Error) -> Verdict
         ensures not_accepted { result ≢ Accepted }
         ensures refused { (e : Error) → result ≡ Refused e → refusal.wants_memory ≡ false }
         ensures memory { result ≢ OutOfMemory → refusal.wants_memory ≡ false }

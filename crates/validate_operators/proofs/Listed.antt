@@ -19,7 +19,7 @@ use Rattle.validation_rules.proofs.Order.{operator_nests}
 use Rattle.validation_rules.proofs.Steps.{stepped, before_then}
 use Rattle.validate_stacks.specs.Pops.{IsKept}
 use Rattle.validate_stacks.specs.State.{BodyState, body_context, IsValidBody}
-use Rattle.validate_stacks.specs.AtOnce.{MeetsAtOnce}
+use Rattle.validate_stacks.specs.AtOnce.{MeetsOrUnchanged}
 use Rattle.validate_stacks.specs.Attempts.{Stacked, is_quiet}
 use Rattle.validate_stacks.specs.Visits.{MayVisit, Meets}
 use Rattle.validate_stacks.proofs.AtOnce.{same_at_once}
@@ -100,7 +100,7 @@ unfolding Meets
 visit_kept md op offset v w r m = m.kept
 
 -- where nothing passed at once, the check is of the state before
-pub row_before : (md : ModuleContext) (op : Context → Operator) (offset : ℕ) (v w : Stacked) (b : Bool) (r : Result (Unit {0}) ErrorValue) (u : BodyState) → MeetsAtOnce md op v b w → b ≡ false → Meets md op offset w.body r u → Meets md op offset v.body r u
+pub row_before : (md : ModuleContext) (op : Context → Operator) (offset : ℕ) (v w : Stacked) (b : Bool) (r : Result (Unit {0}) ErrorValue) (u : BodyState) → MeetsOrUnchanged md op v b w → b ≡ false → Meets md op offset w.body r u → Meets md op offset v.body r u
 row_before md op offset v w b r u m h row = subst (λ (x : Stacked). Meets md op offset x.body r u) (same_at_once md op v w b m h) row
 
 -- the state after it, by another name

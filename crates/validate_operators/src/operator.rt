@@ -5,8 +5,8 @@ ghost use Rattle.std.specs.Prelude.{◌≡◌, false, OnErr};
 ghost use Rattle.validate_types.specs.Told.{IsRowRefused};
 ghost use Rattle.validate_visit.specs.declared.op.Op.{Op};
 ghost use Rattle.validation_rules.specs.Operators.{operator};
-ghost use Rattle.validate_stacks.specs.AtOnce.{MeetsAtOnce};
-ghost use Rattle.validate_stacks.specs.Bodies.{MayBegin, Makes};
+ghost use Rattle.validate_stacks.specs.AtOnce.{MeetsOrUnchanged};
+ghost use Rattle.validate_stacks.specs.Bodies.{CanCheck, Checks};
 ghost use Rattle.validate_stacks.specs.Pops.{IsKept};
 ghost use Rattle.validate_stacks.specs.State.{IsValidBody};
 ghost use Rattle.validate_stacks.specs.Visits.{MayVisit, Meets};
@@ -21,7 +21,7 @@ use crate::parts::end_part;
 use crate::popped::popped_before;
 use validate_resources::WasmModuleResources;
 use validate_shapes::checked::placed;
-use validate_stacks::{Body, Stacks};
+use validate_stacks::{OperatorContext, Stacks};
 use validate_types::{Error, NotDone, Refused, Told};
 use validate_visit::{MemoryOp, Op};
 
@@ -31,25 +31,28 @@ use validate_visit::{MemoryOp, Op};
 /// It stands in each visit, with the bodies of numbers, constants and locals, and calls those of all others: so a visit
 /// whose operator is known has what that one takes alone.
 #[inline(always)]
-fn any_operator<A: Refused, R: WasmModuleResources>(body: Body<'_, '_, R>, op: &Op) -> Result<(), A>
-    requires { MayBegin R.context body }
-    ensures row { Makes R.context A.tells (λ cx. operator cx op.now) body.entry result body.exit }
-    ensures memory { TakesNoMemory (R.context body.entry.resources.now) op.now
-        body.entry.stacks.now.body result }
+fn any_operator<A: Refused, R: WasmModuleResources>(
+    context: OperatorContext<'_, '_, R>,
+    op: &Op,
+) -> Result<(), A>
+    requires { CanCheck R.context context }
+    ensures row { Checks R.context A.tells (λ cx. operator cx op.now) context.entry result context.exit }
+    ensures memory { TakesNoMemory (R.context context.entry.resources.now) op.now
+        context.entry.stacks.now.body result }
 {
     match op {
-        Op::Control(op) => control(body, op),
-        Op::Numeric(op) => gated_numeric(body, op),
-        Op::Convert(op) => gated_convert(body, op),
-        Op::Memory(op) => memory_by_call(body, op),
-        Op::Atomic(op) => gated_atomic(body, op),
-        Op::Reference(op) => gated_reference(body, op),
-        Op::Table(op) => gated_table(body, op),
-        Op::Struct(op) => gated_struct(body, op),
-        Op::Array(op) => gated_array(body, op),
-        Op::Exception(op) => gated_exception(body, op),
-        Op::Continuation(op) => gated_continuation(body, op),
-        Op::Shared(op) => gated_shared(body, op),
+        Op::Control(op) => control(context, op),
+        Op::Numeric(op) => gated_numeric(context, op),
+        Op::Convert(op) => gated_convert(context, op),
+        Op::Memory(op) => memory_by_call(context, op),
+        Op::Atomic(op) => gated_atomic(context, op),
+        Op::Reference(op) => gated_reference(context, op),
+        Op::Table(op) => gated_table(context, op),
+        Op::Struct(op) => gated_struct(context, op),
+        Op::Array(op) => gated_array(context, op),
+        Op::Exception(op) => gated_exception(context, op),
+        Op::Continuation(op) => gated_continuation(context, op),
+        Op::Shared(op) => gated_shared(context, op),
     }
 }
 
@@ -57,15 +60,15 @@ fn any_operator<A: Refused, R: WasmModuleResources>(body: Body<'_, '_, R>, op: &
 #[cold]
 #[inline(never)]
 fn operator_by_call<A: Refused, R: WasmModuleResources>(
-    body: Body<'_, '_, R>,
+    context: OperatorContext<'_, '_, R>,
     op: &Op,
 ) -> Result<(), A>
-    requires { MayBegin R.context body }
-    ensures row { Makes R.context A.tells (λ cx. operator cx op.now) body.entry result body.exit }
-    ensures memory { TakesNoMemory (R.context body.entry.resources.now) op.now
-        body.entry.stacks.now.body result }
+    requires { CanCheck R.context context }
+    ensures row { Checks R.context A.tells (λ cx. operator cx op.now) context.entry result context.exit }
+    ensures memory { TakesNoMemory (R.context context.entry.resources.now) op.now
+        context.entry.stacks.now.body result }
 {
-    any_operator(body, op)
+    any_operator(context, op)
 }
 
 /// The fast lane of [`check_operator`]: whether the body of an operator was done. False, with nothing
@@ -77,10 +80,10 @@ pub(crate) fn operator_at_once<R: WasmModuleResources>(
     op: &Op,
 ) -> bool
     requires { MayVisit (R.context resources.now) stacks.old }
-    ensures { MeetsAtOnce (R.context resources.now) (λ cx. operator cx op.now) stacks.old result stacks.new }
+    ensures { MeetsOrUnchanged (R.context resources.now) (λ cx. operator cx op.now) stacks.old result stacks.new }
 {
     let answer: Result<(), NotDone> = any_operator(
-        Body {
+        OperatorContext {
             stacks: &mut *stacks,
             resources,
         },
@@ -97,11 +100,11 @@ pub(crate) fn memory_at_once<R: WasmModuleResources>(
     op: &MemoryOp,
 ) -> bool
     requires { MayVisit (R.context resources.now) stacks.old }
-    ensures { MeetsAtOnce (R.context resources.now) (λ cx. operator cx (Op.Memory op.now)) stacks.old result
+    ensures { MeetsOrUnchanged (R.context resources.now) (λ cx. operator cx (Op.Memory op.now)) stacks.old result
         stacks.new }
 {
     let answer: Result<(), NotDone> = gated_memory(
-        Body {
+        OperatorContext {
             stacks: &mut *stacks,
             resources,
         },
@@ -126,7 +129,7 @@ pub fn check_operator<R: WasmModuleResources>(
     ensures memory { TakesNoMemory (R.context resources.now) op.now stacks.old.body result }
 {
     let answer: Result<(), Told> = operator_by_call(
-        Body {
+        OperatorContext {
             stacks: &mut *stacks,
             resources,
         },
@@ -135,7 +138,7 @@ pub fn check_operator<R: WasmModuleResources>(
     match answer {
         Ok(()) => Ok(()),
         Err(told) => Err(refuse(
-            Body {
+            OperatorContext {
                 stacks: &mut *stacks,
                 resources,
             },
@@ -161,14 +164,14 @@ pub(crate) fn try_operator<R: WasmModuleResources>(
     ensures back { OnErr result (stacks.new ≡ stacks.old) }
 {
     let answer: Result<(), Told> = operator_by_call(
-        Body {
+        OperatorContext {
             stacks: &mut *stacks,
             resources,
         },
         op,
     );
     placed(
-        &Body {
+        &OperatorContext {
             stacks: &mut *stacks,
             resources,
         },
@@ -178,24 +181,29 @@ pub(crate) fn try_operator<R: WasmModuleResources>(
 }
 
 /// The refusal of an operator whose body refuses so, once what upstream does before it is done.
-fn refuse<R: WasmModuleResources>(body: Body<'_, '_, R>, offset: u64, op: &Op, told: Told) -> Error
-    requires { MayBegin R.context body }
+fn refuse<R: WasmModuleResources>(
+    context: OperatorContext<'_, '_, R>,
+    offset: u64,
+    op: &Op,
+    told: Told,
+) -> Error
+    requires { CanCheck R.context context }
     ensures told { result.wants_memory ≡ false → IsRowRefused told }
     ensures offset { result.offset ≡ offset }
-    ensures valid { IsValidBody (R.context body.entry.resources.now) body.exit.0.now.body }
-    ensures kept { IsKept body.entry.stacks.now.body body.exit.0.now.body }
+    ensures valid { IsValidBody (R.context context.entry.resources.now) context.exit.0.now.body }
+    ensures kept { IsKept context.entry.stacks.now.body context.exit.0.now.body }
 {
-    let resources = body.resources;
-    let popped = popped_before(&body, op, &told);
+    let resources = context.resources;
+    let popped = popped_before(&context, op, &told);
     match end_part(
-        Body {
-            stacks: &mut *body.stacks,
+        OperatorContext {
+            stacks: &mut *context.stacks,
             resources,
         },
         op,
         &told,
     ) {
-        Ok(()) => body.stacks.refuse(resources, told, popped, offset),
+        Ok(()) => context.stacks.refuse(resources, told, popped, offset),
         Err(_) => Error::out_of_memory(offset),
     }
 }

@@ -3,7 +3,7 @@
 
 use validate_resources::WasmModuleResources;
 use validate_stacks::blocks::{params, results};
-use validate_stacks::{Body, Stacks};
+use validate_stacks::{OperatorContext, Stacks};
 use validate_types::{MaybeType, Refusal, Told};
 use validate_visit::{
     ArrayOp, ControlOp, ExceptionOp, Exchange, FieldAccess, Op, ReferenceOp, SharedOp, StructOp,
@@ -12,7 +12,7 @@ use validate_visit::{
 
 /// How many it has popped of an operator, whose body refuses so. Behind a closed gate it pops none.
 pub(crate) fn popped_before<R: WasmModuleResources>(
-    body: &Body<'_, '_, R>,
+    context: &OperatorContext<'_, '_, R>,
     op: &Op,
     told: &Told,
 ) -> usize {
@@ -20,11 +20,11 @@ pub(crate) fn popped_before<R: WasmModuleResources>(
         return 0;
     }
     match op {
-        Op::Control(op) => popped_before_control(body, op, told),
-        Op::Reference(op) => popped_before_reference(body.stacks, op, told),
+        Op::Control(op) => popped_before_control(context, op, told),
+        Op::Reference(op) => popped_before_reference(context.stacks, op, told),
         Op::Struct(op) => popped_before_struct(op, told),
         Op::Array(op) => popped_before_array(op),
-        Op::Exception(op) => popped_before_exception(body, op, told),
+        Op::Exception(op) => popped_before_exception(context, op, told),
         Op::Shared(op) => popped_before_shared(op, told),
         Op::Numeric(_)
         | Op::Convert(_)
@@ -37,12 +37,12 @@ pub(crate) fn popped_before<R: WasmModuleResources>(
 
 /// The same of an operator on control, locals or globals.
 fn popped_before_control<R: WasmModuleResources>(
-    body: &Body<'_, '_, R>,
+    context: &OperatorContext<'_, '_, R>,
     op: &ControlOp,
     told: &Told,
 ) -> usize {
     match op {
-        ControlOp::Else | ControlOp::End => popped_before_end(body, told),
+        ControlOp::Else | ControlOp::End => popped_before_end(context, told),
         ControlOp::BrIf(_) | ControlOp::BrTable(_) => 1,
         ControlOp::Select => 3,
         ControlOp::CallIndirect { .. }
@@ -70,9 +70,12 @@ fn popped_before_control<R: WasmModuleResources>(
 }
 
 /// The same where a part ends: of one with too many operands, its results.
-fn popped_before_end<R: WasmModuleResources>(body: &Body<'_, '_, R>, told: &Told) -> usize {
-    if let (Some(frame), Told::Rule(Refusal::OperandsLeft)) = (body.stacks.get_frame(0), told) {
-        results(body.resources, &frame.block_type).len()
+fn popped_before_end<R: WasmModuleResources>(
+    context: &OperatorContext<'_, '_, R>,
+    told: &Told,
+) -> usize {
+    if let (Some(frame), Told::Rule(Refusal::OperandsLeft)) = (context.stacks.get_frame(0), told) {
+        results(context.resources, &frame.block_type).len()
     } else {
         0
     }
@@ -132,7 +135,7 @@ fn popped_before_eq(stacks: &Stacks, told: &Told) -> usize {
     } else {
         None
     };
-    if refused.is_some() && refused == stacks.found_at(0) {
+    if refused.is_some() && refused == stacks.type_found(0) {
         1
     } else {
         2
@@ -271,14 +274,14 @@ fn taken_by(get: usize, set: usize, access: Exchange) -> usize {
 
 /// The same of an operator on exceptions.
 fn popped_before_exception<R: WasmModuleResources>(
-    body: &Body<'_, '_, R>,
+    context: &OperatorContext<'_, '_, R>,
     op: &ExceptionOp<'_>,
     told: &Told,
 ) -> usize {
     match op {
-        ExceptionOp::TryTable(table) => popped_before_clauses(body.resources, table, told),
+        ExceptionOp::TryTable(table) => popped_before_clauses(context.resources, table, told),
         ExceptionOp::Catch(_) | ExceptionOp::CatchAll | ExceptionOp::Delegate(_) => {
-            popped_before_end(body, told)
+            popped_before_end(context, told)
         }
         ExceptionOp::Throw(_)
         | ExceptionOp::ThrowRef

@@ -16,7 +16,7 @@ ghost use Rattle.validate_operators.specs.Validator.{state, current_kind, stacks
 use crate::validator::OperatorValidator;
 use validate_resources::WasmModuleResources;
 use validate_resources::kinds::func_type_of;
-use validate_stacks::{Body, Pops};
+use validate_stacks::{OperatorContext, Pops};
 use validate_types::{ContType, Error, FuncType, RefType, SubType, Told, ValType};
 use validate_visit::{
     ArrayOp, AtomicOp, BlockType, ContinuationOp, ControlOp, ConvertOp, ExceptionOp, FrameKind,
@@ -177,11 +177,11 @@ impl<'validator, 'resources, R: WasmModuleResources> WasmProposalValidator<
         if n == 0 {
             return Ok(());
         }
-        let body = Body {
+        let context = OperatorContext {
             stacks: &mut self.inner.stacks,
             resources: self.resources,
         };
-        let answer: Result<(), Told> = body.pop_run(elem, n, &[], pops);
+        let answer: Result<(), Told> = context.pop_run(elem, n, &[], pops);
         match answer {
             Ok(()) => Ok(()),
             Err(told) => Err(

@@ -4,7 +4,7 @@ ghost use Rattle.std.specs.Prelude.{◌≤◌, ◌≡◌, ◌⊎◌, ◌<◌, tr
 ghost use Rattle.std.specs.Option.{option_copied, ForSome};
 ghost use Rattle.validation_rules.specs.Static.{operand_count, frame_count};
 ghost use Rattle.validate_locals.specs.Limit.{max_locals};
-ghost use Rattle.validate_stacks.specs.AtOnce.{MeetsAtOnce};
+ghost use Rattle.validate_stacks.specs.AtOnce.{MeetsOrUnchanged};
 ghost use Rattle.validate_stacks.specs.Attempts.{may_attempt, may_frame, stacks_begun, stacks_committed, stacks_rolled_back};
 ghost use Rattle.validate_stacks.specs.Pops.{IsKept};
 ghost use Rattle.validate_stacks.specs.State.{IsStarting, IsValidBody, IsUndoneValid};
@@ -235,7 +235,7 @@ impl OperatorValidator {
     #[inline(always)]
     pub fn passes_at_once<R: WasmModuleResources>(&mut self, resources: &R, op: &Op) -> bool
         requires { MayVisit (R.context resources.now) (stacks_of self.old) }
-        ensures { MeetsAtOnce (R.context resources.now) (λ cx. operator cx op.now) (stacks_of self.old)
+        ensures { MeetsOrUnchanged (R.context resources.now) (λ cx. operator cx op.now) (stacks_of self.old)
             result (stacks_of self.new) }
     {
         operator_at_once(&mut self.stacks, resources, op)
@@ -250,7 +250,7 @@ impl OperatorValidator {
         op: &MemoryOp,
     ) -> bool
         requires { MayVisit (R.context resources.now) (stacks_of self.old) }
-        ensures { MeetsAtOnce (R.context resources.now) (λ cx. operator cx (Op.Memory op.now))
+        ensures { MeetsOrUnchanged (R.context resources.now) (λ cx. operator cx (Op.Memory op.now))
             (stacks_of self.old) result (stacks_of self.new) }
     {
         memory_at_once(&mut self.stacks, resources, op)

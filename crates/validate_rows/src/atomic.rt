@@ -6,13 +6,13 @@ ghost use Rattle.validation_rules.specs.Access.{allows_ordering};
 ghost use Rattle.validation_rules.specs.Atomic.{atomic_row};
 ghost use Rattle.validation_rules.specs.Operators.{row_operator};
 ghost use Rattle.validate_shapes.specs.Operands.{Finds};
-ghost use Rattle.validate_stacks.specs.Bodies.{MayBegin, Makes};
+ghost use Rattle.validate_stacks.specs.Bodies.{CanCheck, Checks};
 
 use validate_resources::WasmModuleResources;
 use validate_shapes::accesses::check_shared_memarg;
 use validate_shapes::numbers::{accessed, integer};
 use validate_shapes::operands::{Few, Operands, Pushed, exchange_found};
-use validate_stacks::{Body, Stacks};
+use validate_stacks::{OperatorContext, Stacks};
 use validate_types::{Gate, Refusal, Refused, ValType, WasmFeatures};
 use validate_visit::{AtomicOp, Ordering};
 
@@ -40,43 +40,43 @@ fn check_ordering<A: Refused>(stacks: &Stacks, ordering: Ordering) -> Result<(),
 
 /// What an atomic operator takes and gives, by the memory that it names.
 fn atomic_types<A: Refused, R: WasmModuleResources>(
-    body: &Body<'_, '_, R>,
+    context: &OperatorContext<'_, '_, R>,
     op: AtomicOp,
 ) -> Result<Operands<'static>, A>
-    ensures { Finds (R.context body.now.resources.now) A.tells (λ cx. atomic_row cx op)
-        body.now.stacks.now.body result }
+    ensures { Finds (R.context context.now.resources.now) A.tells (λ cx. atomic_row cx op)
+        context.now.stacks.now.body result }
 {
     let (expected, pushed) = match op {
         AtomicOp::AtomicNotify(memarg) => {
-            let address = check_shared_memarg(body.resources, memarg)?;
+            let address = check_shared_memarg(context.resources, memarg)?;
             (Few::Two(address, ValType::I32), Pushed::One(ValType::I32))
         }
         AtomicOp::AtomicWait(ty, memarg) => {
-            let address = check_shared_memarg(body.resources, memarg)?;
+            let address = check_shared_memarg(context.resources, memarg)?;
             (
                 Few::Three(address, integer(ty), ValType::I64),
                 Pushed::One(ValType::I32),
             )
         }
         AtomicOp::AtomicFence(ordering) => {
-            check_ordering(body.stacks, ordering)?;
+            check_ordering(context.stacks, ordering)?;
             (Few::Zero, Pushed::Nothing)
         }
         AtomicOp::AtomicLoad(access, memarg) => {
-            let address = check_shared_memarg(body.resources, memarg)?;
+            let address = check_shared_memarg(context.resources, memarg)?;
             (Few::One(address), Pushed::One(accessed(access)))
         }
         AtomicOp::AtomicStore(access, memarg) => {
-            let address = check_shared_memarg(body.resources, memarg)?;
+            let address = check_shared_memarg(context.resources, memarg)?;
             (Few::Two(address, accessed(access)), Pushed::Nothing)
         }
         AtomicOp::AtomicRmw(access, _, memarg) => {
-            let address = check_shared_memarg(body.resources, memarg)?;
+            let address = check_shared_memarg(context.resources, memarg)?;
             let ty = accessed(access);
             (Few::Two(address, ty), Pushed::One(ty))
         }
         AtomicOp::AtomicCmpxchg(access, memarg) => {
-            let address = check_shared_memarg(body.resources, memarg)?;
+            let address = check_shared_memarg(context.resources, memarg)?;
             let ty = accessed(access);
             (Few::Three(address, ty, ty), Pushed::One(ty))
         }
@@ -88,12 +88,12 @@ fn atomic_types<A: Refused, R: WasmModuleResources>(
 /// An atomic operator, its gate aside.
 #[inline(never)]
 pub fn atomic_operator<A: Refused, R: WasmModuleResources>(
-    body: Body<'_, '_, R>,
+    context: OperatorContext<'_, '_, R>,
     op: AtomicOp,
 ) -> Result<(), A>
-    requires { MayBegin R.context body }
-    ensures { Makes R.context A.tells (λ cx. row_operator (atomic_row cx op)) body.entry result body.exit }
+    requires { CanCheck R.context context }
+    ensures { Checks R.context A.tells (λ cx. row_operator (atomic_row cx op)) context.entry result context.exit }
 {
-    let found = atomic_types(&body, op);
-    exchange_found(body, found)
+    let found = atomic_types(&context, op);
+    exchange_found(context, found)
 }

@@ -10,12 +10,12 @@ ghost use Rattle.validate_rows.specs.declared.numeric.Shape.{Shape};
 ghost use Rattle.validation_rules.specs.Convert.{convert_row};
 ghost use Rattle.validation_rules.specs.Numeric.{numeric_row};
 ghost use Rattle.validation_rules.specs.Operators.{plain_row, row_operator};
-ghost use Rattle.validate_stacks.specs.Bodies.{MayBegin, Makes};
+ghost use Rattle.validate_stacks.specs.Bodies.{CanCheck, Checks};
 
 use validate_resources::WasmModuleResources;
 use validate_shapes::numbers::{number, twice};
 use validate_shapes::plain::{binary, constant, plain, unary};
-use validate_stacks::Body;
+use validate_stacks::OperatorContext;
 use validate_types::{Refused, ValType};
 use validate_visit::{ConvertOp, FloatType, IntegerType, NumberType, NumericOp, PackedInteger};
 
@@ -113,15 +113,15 @@ fn convert_types(op: ConvertOp) -> (NumberType, NumberType)
 /// [`unary`], by a call, so that what stands in each visit stays short.
 #[inline(never)]
 fn unary_by_call<A: Refused, R: WasmModuleResources>(
-    body: Body<'_, '_, R>,
+    context: OperatorContext<'_, '_, R>,
     expected: NumberType,
     pushed: NumberType,
 ) -> Result<(), A>
-    requires { MayBegin R.context body }
-    ensures { Makes R.context A.tells (λ cx. row_operator (shape_row (Shape.Unary expected pushed)))
-        body.entry result body.exit }
+    requires { CanCheck R.context context }
+    ensures { Checks R.context A.tells (λ cx. row_operator (shape_row (Shape.Unary expected pushed)))
+        context.entry result context.exit }
 {
-    unary(body, number(expected), number(pushed))
+    unary(context, number(expected), number(pushed))
 }
 
 /// What a wide addition or subtraction takes.
@@ -135,15 +135,15 @@ fn four_integers() -> &'static [ValType]
 /// An operator of one of the wide shapes, by a call too.
 #[inline(never)]
 fn wide<A: Refused, R: WasmModuleResources>(
-    body: Body<'_, '_, R>,
+    context: OperatorContext<'_, '_, R>,
     expected: &[ValType],
 ) -> Result<(), A>
-    requires visit { MayBegin R.context body }
-    requires expected { AllByRecursion (Valid (R.context body.resources.now)) expected.now }
-    ensures { Makes R.context A.tells (λ cx. row_operator (plain_row expected.now (ValType.I64 ∷ ValType.I64 ∷
-        []))) body.entry result body.exit }
+    requires visit { CanCheck R.context context }
+    requires expected { AllByRecursion (Valid (R.context context.resources.now)) expected.now }
+    ensures { Checks R.context A.tells (λ cx. row_operator (plain_row expected.now (ValType.I64 ∷ ValType.I64 ∷
+        []))) context.entry result context.exit }
 {
-    plain(body, expected, twice(ValType::I64))
+    plain(context, expected, twice(ValType::I64))
 }
 
 /// An operator on numbers of one type, or a constant, its gate aside.
@@ -151,30 +151,30 @@ fn wide<A: Refused, R: WasmModuleResources>(
 /// It stands in each visit, so the shapes that few operators have are called.
 #[inline(always)]
 pub fn numeric<A: Refused, R: WasmModuleResources>(
-    body: Body<'_, '_, R>,
+    context: OperatorContext<'_, '_, R>,
     op: NumericOp,
 ) -> Result<(), A>
-    requires { MayBegin R.context body }
-    ensures { Makes R.context A.tells (λ cx. row_operator (numeric_row op)) body.entry result body.exit }
+    requires { CanCheck R.context context }
+    ensures { Checks R.context A.tells (λ cx. row_operator (numeric_row op)) context.entry result context.exit }
 {
     match numeric_shape(op) {
-        Shape::Constant(pushed) => constant(body, number(pushed)),
-        Shape::Unary(expected, pushed) => unary_by_call(body, expected, pushed),
-        Shape::Binary(expected, pushed) => binary(body, number(expected), number(pushed)),
-        Shape::WideBinary => wide(body, four_integers()),
-        Shape::WideMultiply => wide(body, twice(ValType::I64)),
+        Shape::Constant(pushed) => constant(context, number(pushed)),
+        Shape::Unary(expected, pushed) => unary_by_call(context, expected, pushed),
+        Shape::Binary(expected, pushed) => binary(context, number(expected), number(pushed)),
+        Shape::WideBinary => wide(context, four_integers()),
+        Shape::WideMultiply => wide(context, twice(ValType::I64)),
     }
 }
 
 /// A conversion, or an extension of a sign, its gate aside.
 #[inline(always)]
 pub fn convert<A: Refused, R: WasmModuleResources>(
-    body: Body<'_, '_, R>,
+    context: OperatorContext<'_, '_, R>,
     op: ConvertOp,
 ) -> Result<(), A>
-    requires { MayBegin R.context body }
-    ensures { Makes R.context A.tells (λ cx. row_operator (convert_row op)) body.entry result body.exit }
+    requires { CanCheck R.context context }
+    ensures { Checks R.context A.tells (λ cx. row_operator (convert_row op)) context.entry result context.exit }
 {
     let (expected, pushed) = convert_types(op);
-    unary(body, number(expected), number(pushed))
+    unary(context, number(expected), number(pushed))
 }

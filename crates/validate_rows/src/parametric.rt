@@ -4,31 +4,33 @@
 ghost use Rattle.std.specs.Prelude.{◌≡◌, false, None, Some, IfOk, OnErr};
 ghost use Rattle.validate_resources.specs.Context.{is_number_or_vector};
 ghost use Rattle.validation_rules.specs.Operators.{never_row, looking_row, drop_pushes, is_selectable, select_result, select_pushes, typed_select_row, row_operator};
-ghost use Rattle.validate_stacks.specs.Bodies.{MayBegin, Makes};
+ghost use Rattle.validate_stacks.specs.Bodies.{CanCheck, Checks};
 ghost use Rattle.validate_stacks.specs.Visits.{step_body};
 ghost use Rattle.validation_rules.specs.Static.{RowFails};
 
 use validate_resources::WasmModuleResources;
 use validate_shapes::canonical::canonical_value;
 use validate_shapes::plain::plain;
-use validate_stacks::Body;
+use validate_stacks::OperatorContext;
 use validate_types::{MaybeType, Refusal, Refused, ValType};
 
 /// `drop`: any one operand. Where no attempt is pending it is refused only where its row doesn't hold.
 #[inline(never)]
 #[tactic(auto, using(crate::proofs::Sets::drops))]
-pub fn drop_operand<A: Refused, R: WasmModuleResources>(body: Body<'_, '_, R>) -> Result<(), A>
-    requires { MayBegin R.context body }
-    ensures row { Makes R.context A.tells (λ cx. row_operator (looking_row 1 drop_pushes)) body.entry
-        result body.exit }
-    ensures idle { body.entry.stacks.now.body.undone ≡ None
-        → OnErr result (RowFails (step_body (R.context body.entry.resources.now)
-        (λ cx. row_operator (looking_row 1 drop_pushes)) body.entry.stacks.now.body)) }
+pub fn drop_operand<A: Refused, R: WasmModuleResources>(
+    context: OperatorContext<'_, '_, R>,
+) -> Result<(), A>
+    requires { CanCheck R.context context }
+    ensures row { Checks R.context A.tells (λ cx. row_operator (looking_row 1 drop_pushes)) context.entry
+        result context.exit }
+    ensures idle { context.entry.stacks.now.body.undone ≡ None
+        → OnErr result (RowFails (step_body (R.context context.entry.resources.now)
+        (λ cx. row_operator (looking_row 1 drop_pushes)) context.entry.stacks.now.body)) }
 {
-    if body.stacks.own_len() > 0 {
-        return body.stacks.exchange(1, &[]);
+    if context.stacks.own_operand_count() > 0 {
+        return context.stacks.exchange(1, &[]);
     }
-    body.stacks.find_any(0)?;
+    context.stacks.find_any(0)?;
     Ok(())
 }
 
@@ -75,65 +77,69 @@ fn is_number(ty: ValType) -> bool
 /// are unknown. Most are known numbers.
 #[inline(never)]
 #[tactic(auto, using(crate::proofs::Sets::selects))]
-pub fn select<A: Refused, R: WasmModuleResources>(body: Body<'_, '_, R>) -> Result<(), A>
-    requires { MayBegin R.context body }
-    ensures { Makes R.context A.tells (λ cx. row_operator (looking_row 3 (select_pushes cx))) body.entry
-        result body.exit }
+pub fn select<A: Refused, R: WasmModuleResources>(
+    context: OperatorContext<'_, '_, R>,
+) -> Result<(), A>
+    requires { CanCheck R.context context }
+    ensures { Checks R.context A.tells (λ cx. row_operator (looking_row 3 (select_pushes cx))) context.entry
+        result context.exit }
 {
-    let resources = body.resources;
-    let Some(MaybeType::Known(ty)) = body.stacks.found_at(1) else {
-        return any_select(body);
+    let resources = context.resources;
+    let Some(MaybeType::Known(ty)) = context.stacks.type_found(1) else {
+        return any_select(context);
     };
     if !is_number(ty) {
-        return any_select(body);
+        return any_select(context);
     }
-    if body
+    if context
         .stacks
         .exchange_numbers_at_once(resources, &[ty, ty, ValType::I32], Some(ty))
     {
         return Ok(());
     }
-    any_select(body)
+    any_select(context)
 }
 
 /// [`select`] of any operands.
 #[inline(never)]
-fn any_select<A: Refused, R: WasmModuleResources>(body: Body<'_, '_, R>) -> Result<(), A>
-    requires { MayBegin R.context body }
-    ensures { Makes R.context A.tells (λ cx. row_operator (looking_row 3 (select_pushes cx))) body.entry
-        result body.exit }
+fn any_select<A: Refused, R: WasmModuleResources>(
+    context: OperatorContext<'_, '_, R>,
+) -> Result<(), A>
+    requires { CanCheck R.context context }
+    ensures { Checks R.context A.tells (λ cx. row_operator (looking_row 3 (select_pushes cx))) context.entry
+        result context.exit }
 {
-    body.find_operands(0, &[ValType::I32])?;
-    let upper = body.stacks.find_any(1)?;
-    let lower = body.stacks.find_any(2)?;
+    context.expect_operands(0, &[ValType::I32])?;
+    let upper = context.stacks.find_any(1)?;
+    let lower = context.stacks.find_any(2)?;
     let ty = find_selected(&lower, &upper)?;
-    let own = body.stacks.own_len();
-    body.stacks.replace(own.min(3), ty)
+    let own = context.stacks.own_operand_count();
+    context.stacks.replace(own.min(3), ty)
 }
 
 /// `select` with its type: `[t t i32] -> [t]` of the checked type.
 #[inline(never)]
 pub fn typed_select<A: Refused, R: WasmModuleResources>(
-    body: Body<'_, '_, R>,
+    context: OperatorContext<'_, '_, R>,
     ty: &ValType,
 ) -> Result<(), A>
-    requires { MayBegin R.context body }
-    ensures { Makes R.context A.tells (λ cx. row_operator (typed_select_row cx ty.now)) body.entry
-        result body.exit }
+    requires { CanCheck R.context context }
+    ensures { Checks R.context A.tells (λ cx. row_operator (typed_select_row cx ty.now)) context.entry
+        result context.exit }
 {
-    let checked = canonical_value(body.resources, body.stacks.features(), *ty)?;
-    plain(body, &[checked, checked, ValType::I32], &[checked])
+    let checked = canonical_value(context.resources, context.stacks.features(), *ty)?;
+    plain(context, &[checked, checked, ValType::I32], &[checked])
 }
 
 /// `select` with several types: it is never accepted.
 #[inline(never)]
 pub fn typed_select_multi<A: Refused, R: WasmModuleResources>(
-    body: Body<'_, '_, R>,
+    context: OperatorContext<'_, '_, R>,
 ) -> Result<(), A>
-    requires { MayBegin R.context body }
-    ensures { Makes R.context A.tells (λ cx. row_operator never_row) body.entry result body.exit }
+    requires { CanCheck R.context context }
+    ensures { Checks R.context A.tells (λ cx. row_operator never_row) context.entry result context.exit }
 {
     // The contract alone reads it.
-    let _body = body;
+    let _body = context;
     Err(A::of(Refusal::SelectArity))
 }

@@ -10,7 +10,7 @@ ghost use Rattle.std.specs.Option.{option_and_then};
 ghost use Rattle.validation_rules.specs.References.{is_null_gate_open, operand_without_null, ref_null_row, ref_func_row, null_test_pushes, non_null_pushes, br_on_null_row, br_on_non_null_row};
 ghost use Rattle.validation_rules.specs.References as reference_rule;
 ghost use Rattle.validation_rules.specs.Operators.{looking_row, plain_row, row_operator, staying_operator};
-ghost use Rattle.validate_stacks.specs.Bodies.{context_of, MayBegin, Makes};
+ghost use Rattle.validate_stacks.specs.Bodies.{context_of, CanCheck, Checks};
 ghost use Rattle.validate_stacks.specs.State.{body_context};
 ghost use Rattle.validate_stacks.specs.Steps.{found_in_body};
 
@@ -21,7 +21,7 @@ use validate_shapes::canonical::heap_reference;
 use validate_shapes::plain::constant;
 use validate_shapes::references::without_null;
 use validate_stacks::blocks::label_types;
-use validate_stacks::{Body, Stacks};
+use validate_stacks::{OperatorContext, Stacks};
 use validate_types::{
     CoreTypeId, HeapType, MaybeType, RefType, Refusal, Refused, UnpackedIndex, ValType,
 };
@@ -29,7 +29,7 @@ use validate_types::{
 /// The gate of the type of null. A type index of 2^20 or more, to which no reference can be made, has none:
 /// a lookup of at most 1,000,000 types refuses it later on.
 #[inline(always)]
-fn find_null_open<A: Refused>(stacks: &Stacks, heap_type: HeapType) -> Result<(), A>
+fn expect_null_open<A: Refused>(stacks: &Stacks, heap_type: HeapType) -> Result<(), A>
     ensures open { OnOk result ((md : ModuleContext)
         → is_null_gate_open (body_context md stacks.now.body) heap_type ≡ true) }
     ensures closed { OnErr result ((md : ModuleContext)
@@ -47,44 +47,44 @@ fn find_null_open<A: Refused>(stacks: &Stacks, heap_type: HeapType) -> Result<()
 /// The type of null, of a heap type whose gate is open and that is known.
 #[inline(always)]
 fn find_null_type<A: Refused, R: WasmModuleResources>(
-    body: &Body<'_, '_, R>,
+    context: &OperatorContext<'_, '_, R>,
     heap_type: HeapType,
 ) -> Result<ValType, A>
-    ensures found { IfOk result (λ t. ref_null_row (context_of R.context body.now) heap_type ≡ plain_row
+    ensures found { IfOk result (λ t. ref_null_row (context_of R.context context.now) heap_type ≡ plain_row
         [] (t ∷ [])) }
-    ensures valid { IfOk result (λ t. Valid (R.context body.now.resources.now) t) }
-    ensures refused { IfErr result (λ e. A.tells e → (ref_null_row (context_of R.context body.now)
+    ensures valid { IfOk result (λ t. Valid (R.context context.now.resources.now) t) }
+    ensures refused { IfErr result (λ e. A.tells e → (ref_null_row (context_of R.context context.now)
         heap_type).premise ≡ false) }
 {
-    find_null_open(body.stacks, heap_type)?;
-    heap_reference(body.resources, true, heap_type)
+    expect_null_open(context.stacks, heap_type)?;
+    heap_reference(context.resources, true, heap_type)
 }
 
 /// `ref.null`: `[] -> [(ref null h)]` of a heap type h whose gate is open and that is known.
 #[inline(never)]
 pub fn ref_null<A: Refused, R: WasmModuleResources>(
-    body: Body<'_, '_, R>,
+    context: OperatorContext<'_, '_, R>,
     heap_type: HeapType,
 ) -> Result<(), A>
-    requires { MayBegin R.context body }
-    ensures { Makes R.context A.tells (λ cx. row_operator (ref_null_row cx heap_type)) body.entry
-        result body.exit }
+    requires { CanCheck R.context context }
+    ensures { Checks R.context A.tells (λ cx. row_operator (ref_null_row cx heap_type)) context.entry
+        result context.exit }
 {
-    let ty = find_null_type(&body, heap_type)?;
-    constant(body, ty)
+    let ty = find_null_type(&context, heap_type)?;
+    constant(context, ty)
 }
 
 /// What a reference to a function points to, whose type this id names.
 fn function_heap<R: WasmModuleResources>(
-    body: &Body<'_, '_, R>,
+    context: &OperatorContext<'_, '_, R>,
     function_index: u32,
     id: CoreTypeId,
 ) -> HeapType
-    ensures { result ≡ exact_rule.function_heap (context_of R.context body.now) function_index
+    ensures { result ≡ exact_rule.function_heap (context_of R.context context.now) function_index
         (UnpackedIndex.Id id) }
 {
-    let exact = body.stacks.features().custom_descriptors()
-        && body.resources.has_function_exact_type(function_index);
+    let exact = context.stacks.features().custom_descriptors()
+        && context.resources.has_function_exact_type(function_index);
     declared_heap(exact, UnpackedIndex::Id(id))
 }
 
@@ -92,25 +92,25 @@ fn function_heap<R: WasmModuleResources>(
 /// references can be and the module says so.
 #[inline(never)]
 pub fn ref_func<A: Refused, R: WasmModuleResources>(
-    body: Body<'_, '_, R>,
+    context: OperatorContext<'_, '_, R>,
     function_index: u32,
 ) -> Result<(), A>
-    requires { MayBegin R.context body }
-    ensures { Makes R.context A.tells (λ cx. row_operator (ref_func_row cx function_index)) body.entry
-        result body.exit }
+    requires { CanCheck R.context context }
+    ensures { Checks R.context A.tells (λ cx. row_operator (ref_func_row cx function_index)) context.entry
+        result context.exit }
 {
-    laws(body.resources);
-    let Some(id) = body.resources.type_id_of_function(function_index) else {
+    laws(context.resources);
+    let Some(id) = context.resources.type_id_of_function(function_index) else {
         return Err(A::of(Refusal::UnknownFunction(function_index)));
     };
-    if !body.resources.is_function_referenced(function_index) {
+    if !context.resources.is_function_referenced(function_index) {
         return Err(A::of(Refusal::UndeclaredFunction));
     }
-    let heap_type = function_heap(&body, function_index, id);
+    let heap_type = function_heap(&context, function_index, id);
     let Some(ty) = RefType::new(false, heap_type) else {
         unreachable!()
     };
-    constant(body, ValType::Ref(ty))
+    constant(context, ValType::Ref(ty))
 }
 
 /// The operand that a pop finds, without its null: it has to be a reference.
@@ -133,46 +133,52 @@ fn find_reference<A: Refused>(stacks: &Stacks) -> Result<MaybeType, A>
 
 /// `ref.is_null`: `[r] -> [i32]` of any reference r.
 #[inline(never)]
-pub fn ref_is_null<A: Refused, R: WasmModuleResources>(body: Body<'_, '_, R>) -> Result<(), A>
-    requires { MayBegin R.context body }
-    ensures { Makes R.context A.tells (λ cx. row_operator (looking_row 1 null_test_pushes)) body.entry
-        result body.exit }
+pub fn ref_is_null<A: Refused, R: WasmModuleResources>(
+    context: OperatorContext<'_, '_, R>,
+) -> Result<(), A>
+    requires { CanCheck R.context context }
+    ensures { Checks R.context A.tells (λ cx. row_operator (looking_row 1 null_test_pushes)) context.entry
+        result context.exit }
 {
-    find_reference(body.stacks)?;
-    let own = body.stacks.own_len();
-    body.stacks
+    find_reference(context.stacks)?;
+    let own = context.stacks.own_operand_count();
+    context
+        .stacks
         .replace(own.min(1), MaybeType::Known(ValType::I32))
 }
 
 /// `ref.as_non_null`: `[r] -> [r]` of any reference r, without its null.
 #[inline(never)]
-pub fn ref_as_non_null<A: Refused, R: WasmModuleResources>(body: Body<'_, '_, R>) -> Result<(), A>
-    requires { MayBegin R.context body }
-    ensures { Makes R.context A.tells (λ cx. row_operator (looking_row 1 (non_null_pushes cx []))) body.entry
-        result body.exit }
+pub fn ref_as_non_null<A: Refused, R: WasmModuleResources>(
+    context: OperatorContext<'_, '_, R>,
+) -> Result<(), A>
+    requires { CanCheck R.context context }
+    ensures { Checks R.context A.tells (λ cx. row_operator (looking_row 1 (non_null_pushes cx []))) context.entry
+        result context.exit }
 {
-    let reference = find_reference(body.stacks)?;
-    let own = body.stacks.own_len();
-    body.stacks.replace(own.min(1), reference)
+    let reference = find_reference(context.stacks)?;
+    let own = context.stacks.own_operand_count();
+    context.stacks.replace(own.min(1), reference)
 }
 
 /// `br_on_null`: `[t r] -> [t r]` of any reference r, which goes on without its null, with the types t of
 /// the label.
 #[inline(never)]
 pub fn br_on_null<A: Refused, R: WasmModuleResources>(
-    body: Body<'_, '_, R>,
+    context: OperatorContext<'_, '_, R>,
     relative_depth: u32,
 ) -> Result<(), A>
-    requires { MayBegin R.context body }
-    ensures { Makes R.context A.tells (λ cx. staying_operator (λ hs. br_on_null_row cx hs relative_depth))
-        body.entry result body.exit }
+    requires { CanCheck R.context context }
+    ensures { Checks R.context A.tells (λ cx. staying_operator (λ hs. br_on_null_row cx hs relative_depth))
+        context.entry result context.exit }
 {
-    let reference = find_reference(body.stacks)?;
-    let (block_type, kind) = body.stacks.find_label(relative_depth)?;
-    let types = label_types(body.resources, &block_type, kind);
-    body.find_operands(1, types)?;
-    let own = body.stacks.own_len();
-    body.stacks
+    let reference = find_reference(context.stacks)?;
+    let (block_type, kind) = context.stacks.find_label(relative_depth)?;
+    let types = label_types(context.resources, &block_type, kind);
+    context.expect_operands(1, types)?;
+    let own = context.stacks.own_operand_count();
+    context
+        .stacks
         .exchange_topped(own.min(types.len() + 1), types, reference)
 }
 
@@ -194,15 +200,15 @@ fn last_reference<A: Refused>(types: &[ValType]) -> Result<(&[ValType], RefType)
 /// reference to h.
 #[inline(never)]
 pub fn br_on_non_null<A: Refused, R: WasmModuleResources>(
-    body: Body<'_, '_, R>,
+    context: OperatorContext<'_, '_, R>,
     relative_depth: u32,
 ) -> Result<(), A>
-    requires { MayBegin R.context body }
-    ensures { Makes R.context A.tells (λ cx. staying_operator (λ hs. br_on_non_null_row cx hs relative_depth))
-        body.entry result body.exit }
+    requires { CanCheck R.context context }
+    ensures { Checks R.context A.tells (λ cx. staying_operator (λ hs. br_on_non_null_row cx hs relative_depth))
+        context.entry result context.exit }
 {
-    let (block_type, kind) = body.stacks.find_label(relative_depth)?;
-    let types = label_types(body.resources, &block_type, kind);
+    let (block_type, kind) = context.stacks.find_label(relative_depth)?;
+    let types = label_types(context.resources, &block_type, kind);
     let (others, last) = last_reference(types)?;
-    body.exchange_under(others, ValType::Ref(last.nullable()), others)
+    context.exchange_with_top(others, ValType::Ref(last.nullable()), others)
 }

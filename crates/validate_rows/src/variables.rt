@@ -2,111 +2,114 @@
 #![tactic(auto, using(crate::proofs::Sets::variables))]
 
 ghost use Rattle.validation_rules.specs.Operators.{row_operator, local_get_row, local_set_row, local_tee_row};
-ghost use Rattle.validate_stacks.specs.Bodies.{MayBegin, Makes};
+ghost use Rattle.validate_stacks.specs.Bodies.{CanCheck, Checks};
 
 use validate_resources::WasmModuleResources;
 use validate_shapes::plain::local_constant;
-use validate_stacks::Body;
+use validate_stacks::OperatorContext;
 use validate_types::Refused;
 
 /// `local.get`: `[] -> [t]` of a local that is set.
 #[inline(always)]
 pub fn local_get<A: Refused, R: WasmModuleResources>(
-    body: Body<'_, '_, R>,
+    context: OperatorContext<'_, '_, R>,
     local_index: u32,
 ) -> Result<(), A>
-    requires { MayBegin R.context body }
-    ensures { Makes R.context A.tells (λ cx. row_operator (local_get_row cx local_index)) body.entry
-        result body.exit }
+    requires { CanCheck R.context context }
+    ensures { Checks R.context A.tells (λ cx. row_operator (local_get_row cx local_index)) context.entry
+        result context.exit }
 {
-    let ty = body.stacks.find_local(local_index)?;
-    body.stacks.find_set(local_index)?;
-    local_constant(body, ty)
+    let ty = context.stacks.find_local(local_index)?;
+    context.stacks.expect_set(local_index)?;
+    local_constant(context, ty)
 }
 
 /// `local.set`: `[t] -> []`, and the local is set. Most are set already, and are numbers.
 #[inline(always)]
 pub fn local_set<A: Refused, R: WasmModuleResources>(
-    body: Body<'_, '_, R>,
+    context: OperatorContext<'_, '_, R>,
     local_index: u32,
 ) -> Result<(), A>
-    requires { MayBegin R.context body }
-    ensures { Makes R.context A.tells (λ cx. row_operator (local_set_row cx local_index)) body.entry
-        result body.exit }
+    requires { CanCheck R.context context }
+    ensures { Checks R.context A.tells (λ cx. row_operator (local_set_row cx local_index)) context.entry
+        result context.exit }
 {
-    let resources = body.resources;
-    let ty = body.stacks.find_local(local_index)?;
-    if body.stacks.is_uninit(local_index) {
-        return any_local_set(body, local_index);
+    let resources = context.resources;
+    let ty = context.stacks.find_local(local_index)?;
+    if context.stacks.is_uninit(local_index) {
+        return any_local_set(context, local_index);
     }
-    if body.stacks.pop_local_at_once(resources, ty) {
+    if context.stacks.pop_local_at_once(resources, ty) {
         return Ok(());
     }
-    any_local_set(body, local_index)
+    any_local_set(context, local_index)
 }
 
 /// [`local_set`] of any type, set or not. It finds the type again, so that none is handed on where it isn't called.
 #[inline(never)]
 fn any_local_set<A: Refused, R: WasmModuleResources>(
-    body: Body<'_, '_, R>,
+    context: OperatorContext<'_, '_, R>,
     local_index: u32,
 ) -> Result<(), A>
-    requires { MayBegin R.context body }
-    ensures { Makes R.context A.tells (λ cx. row_operator (local_set_row cx local_index)) body.entry
-        result body.exit }
+    requires { CanCheck R.context context }
+    ensures { Checks R.context A.tells (λ cx. row_operator (local_set_row cx local_index)) context.entry
+        result context.exit }
 {
-    let ty = body.stacks.find_local_type(local_index)?;
-    if body.stacks.is_uninit(local_index) {
-        return body.exchange_setting(local_index, ty, &[]);
+    let ty = context.stacks.find_local_type(local_index)?;
+    if context.stacks.is_uninit(local_index) {
+        return context.exchange_setting(local_index, ty, &[]);
     }
-    let resources = body.resources;
-    if body.stacks.exchange_known_at_once(resources, &[ty], None) {
+    let resources = context.resources;
+    if context
+        .stacks
+        .exchange_known_at_once(resources, &[ty], None)
+    {
         return Ok(());
     }
-    body.exchange_types(&[ty], &[])
+    context.exchange_types(&[ty], &[])
 }
 
 /// `local.tee`: `[t] -> [t]`, and the local is set. Most are set already, and are numbers: then nothing changes.
 #[inline(always)]
 pub fn local_tee<A: Refused, R: WasmModuleResources>(
-    body: Body<'_, '_, R>,
+    context: OperatorContext<'_, '_, R>,
     local_index: u32,
 ) -> Result<(), A>
-    requires { MayBegin R.context body }
-    ensures { Makes R.context A.tells (λ cx. row_operator (local_tee_row cx local_index)) body.entry
-        result body.exit }
+    requires { CanCheck R.context context }
+    ensures { Checks R.context A.tells (λ cx. row_operator (local_tee_row cx local_index)) context.entry
+        result context.exit }
 {
-    let resources = body.resources;
-    let ty = body.stacks.find_local(local_index)?;
-    if body.stacks.is_uninit(local_index) {
-        return any_local_tee(body, local_index);
+    let resources = context.resources;
+    let ty = context.stacks.find_local(local_index)?;
+    if context.stacks.is_uninit(local_index) {
+        return any_local_tee(context, local_index);
     }
-    if body.stacks.has_local_at_once(resources, ty) {
+    if context.stacks.has_local_at_once(resources, ty) {
         return Ok(());
     }
-    any_local_tee(body, local_index)
+    any_local_tee(context, local_index)
 }
 
 /// [`local_tee`] of any type, set or not.
 #[inline(never)]
 fn any_local_tee<A: Refused, R: WasmModuleResources>(
-    body: Body<'_, '_, R>,
+    context: OperatorContext<'_, '_, R>,
     local_index: u32,
 ) -> Result<(), A>
-    requires { MayBegin R.context body }
-    ensures { Makes R.context A.tells (λ cx. row_operator (local_tee_row cx local_index)) body.entry
-        result body.exit }
+    requires { CanCheck R.context context }
+    ensures { Checks R.context A.tells (λ cx. row_operator (local_tee_row cx local_index)) context.entry
+        result context.exit }
 {
-    let ty = body.stacks.find_local_type(local_index)?;
-    if body.stacks.is_uninit(local_index) {
-        return body.exchange_setting(local_index, ty, &[ty]);
+    let ty = context.stacks.find_local_type(local_index)?;
+    if context.stacks.is_uninit(local_index) {
+        return context.exchange_setting(local_index, ty, &[ty]);
     }
-    let resources = body.resources;
-    if body
+    let resources = context.resources;
+    if context
         .stacks
         .exchange_known_at_once(resources, &[ty], Some(ty))
     {
         return Ok(());
     }
-    body.exchange_types(&[ty], &[ty])
+    context.exchange_types(&[ty], &[ty])
 }

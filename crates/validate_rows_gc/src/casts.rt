@@ -8,13 +8,13 @@ ghost use Rattle.validation_rules.specs.Casts.{is_castable, cast_operand, ref_te
 ghost use Rattle.validation_rules.specs.Casts as rule;
 ghost use Rattle.validation_rules.specs.Operators.{row_operator, staying_operator};
 ghost use Rattle.validate_rows_gc.specs.Casts.{branch_row, branch_types, cast_types, MovesBelow};
-ghost use Rattle.validate_stacks.specs.Bodies.{context_of, MayBegin, Makes};
+ghost use Rattle.validate_stacks.specs.Bodies.{context_of, CanCheck, Checks};
 
 use validate_resources::WasmModuleResources;
 use validate_resources::uses::laws;
 use validate_shapes::canonical::canonical_ref;
 use validate_shapes::plain::one_for_one;
-use validate_stacks::Body;
+use validate_stacks::OperatorContext;
 use validate_stacks::blocks::label_types;
 use validate_types::{AbstractHeapType, HeapType, MaybeType, RefType, Refusal, Refused, ValType};
 use validate_visit::BranchCast;
@@ -23,18 +23,18 @@ use validate_visit::BranchCast;
 /// `check_ref_type`).
 #[inline(always)]
 fn checked_ref<A: Refused, R: WasmModuleResources>(
-    body: &Body<'_, '_, R>,
+    context: &OperatorContext<'_, '_, R>,
     ty: RefType,
 ) -> Result<RefType, A>
-    ensures found { IfOk result (λ r. rule.checked_ref (context_of R.context body.now) ty ≡ Some r) }
-    ensures valid { IfOk result (λ r. Valid (R.context body.now.resources.now) (ValType.Ref r)) }
-    ensures refused { IfErr result (λ e. A.tells e → rule.checked_ref (context_of R.context body.now)
+    ensures found { IfOk result (λ r. rule.checked_ref (context_of R.context context.now) ty ≡ Some r) }
+    ensures valid { IfOk result (λ r. Valid (R.context context.now.resources.now) (ValType.Ref r)) }
+    ensures refused { IfErr result (λ e. A.tells e → rule.checked_ref (context_of R.context context.now)
         ty ≡ None) }
 {
-    if let Err(text) = body.stacks.features().check_ref_type(ty) {
+    if let Err(text) = context.stacks.features().check_ref_type(ty) {
         return Err(A::of(Refusal::ReferenceOff(text)));
     }
-    canonical_ref(body.resources, ty)
+    canonical_ref(context.resources, ty)
 }
 
 /// Refuses a type that no cast leads to (wasmparser's `check_cast_to_allowed`).
@@ -56,21 +56,21 @@ fn check_castable<A: Refused, R: WasmModuleResources>(resources: &R, ty: RefType
 /// The type of a test or a cast to a heap type, which may be cast to (wasmparser's `check_downcast`).
 #[inline(always)]
 pub fn cast_type<A: Refused, R: WasmModuleResources>(
-    body: &Body<'_, '_, R>,
+    context: &OperatorContext<'_, '_, R>,
     nullable: bool,
     heap_type: HeapType,
 ) -> Result<RefType, A>
-    ensures found { IfOk result (λ r. rule.cast_type (context_of R.context body.now) nullable
+    ensures found { IfOk result (λ r. rule.cast_type (context_of R.context context.now) nullable
         heap_type ≡ Some r) }
-    ensures valid { IfOk result (λ r. Valid (R.context body.now.resources.now) (ValType.Ref r)) }
-    ensures refused { IfErr result (λ e. A.tells e → rule.cast_type (context_of R.context body.now) nullable
+    ensures valid { IfOk result (λ r. Valid (R.context context.now.resources.now) (ValType.Ref r)) }
+    ensures refused { IfErr result (λ e. A.tells e → rule.cast_type (context_of R.context context.now) nullable
         heap_type ≡ None) }
 {
     let Some(ty) = RefType::new(nullable, heap_type) else {
         return Err(A::of(Refusal::TypeIndexTooLarge));
     };
-    let checked = checked_ref(body, ty)?;
-    check_castable(body.resources, checked)?;
+    let checked = checked_ref(context, ty)?;
+    check_castable(context.resources, checked)?;
     Ok(checked)
 }
 
@@ -91,33 +91,33 @@ pub fn operand_of_cast<R: WasmModuleResources>(resources: &R, ty: RefType) -> Va
 /// `ref.test`: `[(ref null top)] -> [i32]`, with the top type of the hierarchy of the type tested.
 #[inline(never)]
 pub fn ref_test<A: Refused, R: WasmModuleResources>(
-    body: Body<'_, '_, R>,
+    context: OperatorContext<'_, '_, R>,
     nullable: bool,
     heap_type: &HeapType,
 ) -> Result<(), A>
-    requires { MayBegin R.context body }
-    ensures { Makes R.context A.tells (λ cx. row_operator (ref_test_row cx nullable heap_type.now)) body.entry
-        result body.exit }
+    requires { CanCheck R.context context }
+    ensures { Checks R.context A.tells (λ cx. row_operator (ref_test_row cx nullable heap_type.now)) context.entry
+        result context.exit }
 {
-    let ty = cast_type(&body, nullable, *heap_type)?;
-    let operand = operand_of_cast(body.resources, ty);
-    one_for_one(body, operand, ValType::I32)
+    let ty = cast_type(&context, nullable, *heap_type)?;
+    let operand = operand_of_cast(context.resources, ty);
+    one_for_one(context, operand, ValType::I32)
 }
 
 /// `ref.cast`: `[(ref null top)] -> [t]`, with the top type of the hierarchy of the type t cast to.
 #[inline(never)]
 pub fn ref_cast<A: Refused, R: WasmModuleResources>(
-    body: Body<'_, '_, R>,
+    context: OperatorContext<'_, '_, R>,
     nullable: bool,
     heap_type: &HeapType,
 ) -> Result<(), A>
-    requires { MayBegin R.context body }
-    ensures { Makes R.context A.tells (λ cx. row_operator (ref_cast_row cx nullable heap_type.now)) body.entry
-        result body.exit }
+    requires { CanCheck R.context context }
+    ensures { Checks R.context A.tells (λ cx. row_operator (ref_cast_row cx nullable heap_type.now)) context.entry
+        result context.exit }
 {
-    let ty = cast_type(&body, nullable, *heap_type)?;
-    let operand = operand_of_cast(body.resources, ty);
-    one_for_one(body, operand, ValType::Ref(ty))
+    let ty = cast_type(&context, nullable, *heap_type)?;
+    let operand = operand_of_cast(context.resources, ty);
+    one_for_one(context, operand, ValType::Ref(ty))
 }
 
 /// Whether both are one abstract type, as top types are.
@@ -139,25 +139,25 @@ fn is_same_top(a: HeapType, b: HeapType) -> bool
 /// Refuses a cast to a type that doesn't lie below the one cast from, or, where references can be exact, is of
 /// another hierarchy; and one that no cast leads to (wasmparser's `check_br_on_cast_type_hierarchy`).
 fn check_may_cast<A: Refused, R: WasmModuleResources>(
-    body: &Body<'_, '_, R>,
+    context: &OperatorContext<'_, '_, R>,
     from: RefType,
     to: RefType,
 ) -> Result<(), A>
-    requires from { Valid (R.context body.now.resources.now) (ValType.Ref from) }
-    requires to { Valid (R.context body.now.resources.now) (ValType.Ref to) }
-    ensures passed { OnOk result (may_cast (context_of R.context body.now) from to ≡ true) }
-    ensures refused { OnErr result (may_cast (context_of R.context body.now) from to ≡ false) }
+    requires from { Valid (R.context context.now.resources.now) (ValType.Ref from) }
+    requires to { Valid (R.context context.now.resources.now) (ValType.Ref to) }
+    ensures passed { OnOk result (may_cast (context_of R.context context.now) from to ≡ true) }
+    ensures refused { OnErr result (may_cast (context_of R.context context.now) from to ≡ false) }
 {
-    check_castable(body.resources, to)?;
-    if body.stacks.features().custom_descriptors() {
-        let from_top = body.resources.top_type(&from.heap_type());
-        let to_top = body.resources.top_type(&to.heap_type());
+    check_castable(context.resources, to)?;
+    if context.stacks.features().custom_descriptors() {
+        let from_top = context.resources.top_type(&from.heap_type());
+        let to_top = context.resources.top_type(&to.heap_type());
         if is_same_top(from_top, to_top) {
             Ok(())
         } else {
             Err(A::of(Refusal::OtherHierarchy { from, into: to }))
         }
-    } else if body
+    } else if context
         .resources
         .is_subtype(ValType::Ref(to), ValType::Ref(from))
     {
@@ -169,18 +169,18 @@ fn check_may_cast<A: Refused, R: WasmModuleResources>(
 
 /// Both types of a branch by a cast, in canonical form; the one may be cast to the other.
 pub fn checked_cast<A: Refused, R: WasmModuleResources>(
-    body: &Body<'_, '_, R>,
+    context: &OperatorContext<'_, '_, R>,
     cast: BranchCast,
 ) -> Result<(RefType, RefType), A>
-    ensures found { IfOk result (λ p. rule.checked_cast (context_of R.context body.now) cast ≡ Some p) }
-    ensures from { IfOk result (λ p. Valid (R.context body.now.resources.now) (ValType.Ref p.0)) }
-    ensures to { IfOk result (λ p. Valid (R.context body.now.resources.now) (ValType.Ref p.1)) }
-    ensures refused { IfErr result (λ e. A.tells e → rule.checked_cast (context_of R.context body.now)
+    ensures found { IfOk result (λ p. rule.checked_cast (context_of R.context context.now) cast ≡ Some p) }
+    ensures from { IfOk result (λ p. Valid (R.context context.now.resources.now) (ValType.Ref p.0)) }
+    ensures to { IfOk result (λ p. Valid (R.context context.now.resources.now) (ValType.Ref p.1)) }
+    ensures refused { IfErr result (λ e. A.tells e → rule.checked_cast (context_of R.context context.now)
         cast ≡ None) }
 {
-    let from = checked_ref(body, cast.from_ref_type)?;
-    let to = checked_ref(body, cast.to_ref_type)?;
-    check_may_cast(body, from, to)?;
+    let from = checked_ref(context, cast.from_ref_type)?;
+    let to = checked_ref(context, cast.to_ref_type)?;
+    check_may_cast(context, from, to)?;
     Ok((from, to))
 }
 
@@ -268,70 +268,74 @@ impl CastBranch {
 /// types t of the label but its last, which lies above what is carried there.
 #[inline(always)]
 pub(crate) fn cast_branch<A: Refused, R: WasmModuleResources>(
-    body: Body<'_, '_, R>,
+    context: OperatorContext<'_, '_, R>,
     above: usize,
     branch: CastBranch,
     relative_depth: u32,
     cast: (RefType, RefType),
 ) -> Result<(), A>
-    requires visit { MayBegin R.context body }
+    requires visit { CanCheck R.context context }
     requires above { above ≤ 1 }
-    requires from { Valid (R.context body.resources.now) (ValType.Ref cast.0) }
-    requires to { Valid (R.context body.resources.now) (ValType.Ref cast.1) }
-    ensures { MovesBelow (R.context body.entry.resources.now) A.tells above
+    requires from { Valid (R.context context.resources.now) (ValType.Ref cast.0) }
+    requires to { Valid (R.context context.resources.now) (ValType.Ref cast.1) }
+    ensures { MovesBelow (R.context context.entry.resources.now) A.tells above
         (λ cx. staying_operator (λ hs. cast_branch_row cx hs relative_depth (branch_types branch cast)))
-        body.entry.stacks.now result body.exit.0.now }
+        context.entry.stacks.now result context.exit.0.now }
 {
-    let (block_type, kind) = body.stacks.find_label(relative_depth)?;
-    let types = label_types(body.resources, &block_type, kind);
+    let (block_type, kind) = context.stacks.find_label(relative_depth)?;
+    let types = label_types(context.resources, &block_type, kind);
     let (others, last) = branch.last_type(types)?;
     let cast = branch.types(cast);
-    branch.check_carried(body.resources, last, cast.carried)?;
-    body.find_under(above, others, ValType::Ref(cast.from))?;
-    let popped = body.stacks.own_len().min(others.len() + 1 + above);
-    body.stacks
+    branch.check_carried(context.resources, last, cast.carried)?;
+    context.expect_with_top(above, others, ValType::Ref(cast.from))?;
+    let popped = context
+        .stacks
+        .own_operand_count()
+        .min(others.len() + 1 + above);
+    context
+        .stacks
         .exchange_topped(popped, others, MaybeType::Known(ValType::Ref(cast.left)))
 }
 
 /// A branch by a cast: what is carried to the label is of the type cast to, or isn't.
 #[inline(always)]
 fn branch_by_cast<A: Refused, R: WasmModuleResources>(
-    body: Body<'_, '_, R>,
+    context: OperatorContext<'_, '_, R>,
     branch: CastBranch,
     cast: BranchCast,
 ) -> Result<(), A>
-    requires { MayBegin R.context body }
-    ensures { Makes R.context A.tells (λ cx. staying_operator (λ hs. branch_row branch cx hs cast)) body.entry
-        result body.exit }
+    requires { CanCheck R.context context }
+    ensures { Checks R.context A.tells (λ cx. staying_operator (λ hs. branch_row branch cx hs cast)) context.entry
+        result context.exit }
 {
-    let types = checked_cast(&body, cast)?;
-    cast_branch(body, 0, branch, cast.relative_depth, types)
+    let types = checked_cast(&context, cast)?;
+    cast_branch(context, 0, branch, cast.relative_depth, types)
 }
 
 /// `br_on_cast`: `[t from] -> [t left]`, with the types t of the label but its last. What is cast is carried
 /// to the label, and goes on without what it was cast to.
 #[inline(never)]
 pub fn br_on_cast<A: Refused, R: WasmModuleResources>(
-    body: Body<'_, '_, R>,
+    context: OperatorContext<'_, '_, R>,
     cast: &BranchCast,
 ) -> Result<(), A>
-    requires { MayBegin R.context body }
-    ensures { Makes R.context A.tells (λ cx. staying_operator (λ hs. br_on_cast_row cx hs cast.now))
-        body.entry result body.exit }
+    requires { CanCheck R.context context }
+    ensures { Checks R.context A.tells (λ cx. staying_operator (λ hs. br_on_cast_row cx hs cast.now))
+        context.entry result context.exit }
 {
-    branch_by_cast(body, CastBranch::OnCast, *cast)
+    branch_by_cast(context, CastBranch::OnCast, *cast)
 }
 
 /// `br_on_cast_fail`: `[t from] -> [t to]`, with the types t of the label but its last. What isn't cast is
 /// carried to the label.
 #[inline(never)]
 pub fn br_on_cast_fail<A: Refused, R: WasmModuleResources>(
-    body: Body<'_, '_, R>,
+    context: OperatorContext<'_, '_, R>,
     cast: &BranchCast,
 ) -> Result<(), A>
-    requires { MayBegin R.context body }
-    ensures { Makes R.context A.tells (λ cx. staying_operator (λ hs. br_on_cast_fail_row cx hs cast.now))
-        body.entry result body.exit }
+    requires { CanCheck R.context context }
+    ensures { Checks R.context A.tells (λ cx. staying_operator (λ hs. br_on_cast_fail_row cx hs cast.now))
+        context.entry result context.exit }
 {
-    branch_by_cast(body, CastBranch::OnCastFail, *cast)
+    branch_by_cast(context, CastBranch::OnCastFail, *cast)
 }

@@ -9,20 +9,20 @@ ghost use Rattle.validation_rules.specs.Exceptions.{clause_to, exception_referen
 ghost use Rattle.validation_rules.specs.Fits.{Known, all_fit};
 ghost use Rattle.validation_rules.specs.Static.{heads, clause_fits};
 ghost use Rattle.validate_rows_gc.specs.Clauses.{is_fitting_catch, are_fitting_catches};
-ghost use Rattle.validate_stacks.specs.Bodies.{context_of, MayBegin, Makes};
+ghost use Rattle.validate_stacks.specs.Bodies.{context_of, CanCheck, Checks};
 ghost use Rattle.validate_stacks.specs.State.{IsValidBody};
 
 use validate_resources::WasmModuleResources;
 use validate_shapes::blocks::check_block_type;
 use validate_shapes::tags::exception_types_at;
-use validate_stacks::Body;
+use validate_stacks::OperatorContext;
 use validate_stacks::blocks::{label_types, params};
 use validate_types::{ClauseKind, RefType, Refusal, Refused, ValType};
 use validate_visit::{Catch, FrameKind, TryTable};
 
 /// What a clause carries to its label, one by one from the first: types below those of the label.
 #[tactic(auto, using(validate_shapes::proofs::TypesBelow::compared_lists))]
-fn find_types<A: Refused, R: WasmModuleResources>(
+fn expect_types<A: Refused, R: WasmModuleResources>(
     resources: &R,
     types: &[ValType],
     expected: &[ValType],
@@ -49,54 +49,57 @@ fn other_type<A: Refused>(expected: ValType, found: ValType) -> A {
 }
 
 /// A clause of this kind that carries these types alone to a label, which has to have as many.
-fn find_carried<A: Refused, R: WasmModuleResources>(
-    body: &Body<'_, '_, R>,
+fn expect_carried<A: Refused, R: WasmModuleResources>(
+    context: &OperatorContext<'_, '_, R>,
     kind: ClauseKind,
     label_index: u32,
     types: &[ValType],
 ) -> Result<(), A>
-    requires state { IsValidBody (R.context body.now.resources.now) body.now.stacks.now.body }
-    requires types { AllByRecursion (Valid (R.context body.now.resources.now)) types.now }
-    ensures fits { OnOk result (clause_fits (context_of R.context body.now)
-        (heads body.now.stacks.now.body.present.frames) (clause_to label_index types.now) ≡ true) }
-    ensures refused { OnErr result (clause_fits (context_of R.context body.now)
-        (heads body.now.stacks.now.body.present.frames) (clause_to label_index types.now) ≡ false) }
+    requires state { IsValidBody (R.context context.now.resources.now) context.now.stacks.now.body }
+    requires types { AllByRecursion (Valid (R.context context.now.resources.now)) types.now }
+    ensures fits { OnOk result (clause_fits (context_of R.context context.now)
+        (heads context.now.stacks.now.body.present.frames) (clause_to label_index types.now) ≡ true) }
+    ensures refused { OnErr result (clause_fits (context_of R.context context.now)
+        (heads context.now.stacks.now.body.present.frames) (clause_to label_index types.now) ≡ false) }
 {
-    let (block_type, frame_kind) = body.stacks.find_label(label_index)?;
-    let expected = label_types(body.resources, &block_type, frame_kind);
+    let (block_type, frame_kind) = context.stacks.find_label(label_index)?;
+    let expected = label_types(context.resources, &block_type, frame_kind);
     if expected.len() != types.len() {
         return Err(A::of(Refusal::ClauseArity(kind)));
     }
-    find_types(body.resources, types, expected)
+    expect_types(context.resources, types, expected)
 }
 
 /// A clause of this kind that carries these types and a reference to the exception to a label, which has to have one
 /// more.
-fn find_carried_with_reference<A: Refused, R: WasmModuleResources>(
-    body: &Body<'_, '_, R>,
+fn expect_carried_with_reference<A: Refused, R: WasmModuleResources>(
+    context: &OperatorContext<'_, '_, R>,
     kind: ClauseKind,
     label_index: u32,
     types: &[ValType],
 ) -> Result<(), A>
-    requires state { IsValidBody (R.context body.now.resources.now) body.now.stacks.now.body }
-    requires types { AllByRecursion (Valid (R.context body.now.resources.now)) types.now }
-    ensures fits { OnOk result (clause_fits (context_of R.context body.now)
-        (heads body.now.stacks.now.body.present.frames)
+    requires state { IsValidBody (R.context context.now.resources.now) context.now.stacks.now.body }
+    requires types { AllByRecursion (Valid (R.context context.now.resources.now)) types.now }
+    ensures fits { OnOk result (clause_fits (context_of R.context context.now)
+        (heads context.now.stacks.now.body.present.frames)
         (clause_to label_index (types.now ++ exception_reference ∷ [])) ≡ true) }
-    ensures refused { OnErr result (clause_fits (context_of R.context body.now)
-        (heads body.now.stacks.now.body.present.frames)
+    ensures refused { OnErr result (clause_fits (context_of R.context context.now)
+        (heads context.now.stacks.now.body.present.frames)
         (clause_to label_index (types.now ++ exception_reference ∷ [])) ≡ false) }
 {
-    let (block_type, frame_kind) = body.stacks.find_label(label_index)?;
-    let expected = label_types(body.resources, &block_type, frame_kind);
+    let (block_type, frame_kind) = context.stacks.find_label(label_index)?;
+    let expected = label_types(context.resources, &block_type, frame_kind);
     let Some((last, others)) = expected.split_last() else {
         return Err(A::of(Refusal::ClauseArity(kind)));
     };
     if others.len() != types.len() {
         return Err(A::of(Refusal::ClauseArity(kind)));
     }
-    find_types(body.resources, types, others)?;
-    if !body.resources.is_subtype(ValType::Ref(RefType::EXN), *last) {
+    expect_types(context.resources, types, others)?;
+    if !context
+        .resources
+        .is_subtype(ValType::Ref(RefType::EXN), *last)
+    {
         return Err(other_reference(kind, *last));
     }
     Ok(())
@@ -112,45 +115,45 @@ fn other_reference<A: Refused>(kind: ClauseKind, expected: ValType) -> A {
 
 /// A clause: its tag has to be declared and to have no results, its label to exist, and what it carries to
 /// be below the label's types, in equal number.
-fn find_clause<A: Refused, R: WasmModuleResources>(
-    body: &Body<'_, '_, R>,
+fn expect_clause<A: Refused, R: WasmModuleResources>(
+    context: &OperatorContext<'_, '_, R>,
     catch: Catch,
 ) -> Result<(), A>
-    requires { IsValidBody (R.context body.now.resources.now) body.now.stacks.now.body }
-    ensures fits { OnOk result (is_fitting_catch (context_of R.context body.now)
-        (heads body.now.stacks.now.body.present.frames) catch ≡ true) }
-    ensures refused { OnErr result (is_fitting_catch (context_of R.context body.now)
-        (heads body.now.stacks.now.body.present.frames) catch ≡ false) }
+    requires { IsValidBody (R.context context.now.resources.now) context.now.stacks.now.body }
+    ensures fits { OnOk result (is_fitting_catch (context_of R.context context.now)
+        (heads context.now.stacks.now.body.present.frames) catch ≡ true) }
+    ensures refused { OnErr result (is_fitting_catch (context_of R.context context.now)
+        (heads context.now.stacks.now.body.present.frames) catch ≡ false) }
 {
     match catch {
         Catch::One { tag, label } => {
-            let types = exception_types_at(body.resources, tag)?;
-            find_carried(body, ClauseKind::Catch, label, types)
+            let types = exception_types_at(context.resources, tag)?;
+            expect_carried(context, ClauseKind::Catch, label, types)
         }
         Catch::OneRef { tag, label } => {
-            let types = exception_types_at(body.resources, tag)?;
-            find_carried_with_reference(body, ClauseKind::CatchRef, label, types)
+            let types = exception_types_at(context.resources, tag)?;
+            expect_carried_with_reference(context, ClauseKind::CatchRef, label, types)
         }
-        Catch::All { label } => find_carried(body, ClauseKind::CatchAll, label, &[]),
+        Catch::All { label } => expect_carried(context, ClauseKind::CatchAll, label, &[]),
         Catch::AllRef { label } => {
-            find_carried_with_reference(body, ClauseKind::CatchAllRef, label, &[])
+            expect_carried_with_reference(context, ClauseKind::CatchAllRef, label, &[])
         }
     }
 }
 
 /// Each clause, from the first on.
-fn find_clauses<A: Refused, R: WasmModuleResources>(
-    body: &Body<'_, '_, R>,
+fn expect_clauses<A: Refused, R: WasmModuleResources>(
+    context: &OperatorContext<'_, '_, R>,
     catches: &[Catch],
 ) -> Result<(), A>
-    requires { IsValidBody (R.context body.now.resources.now) body.now.stacks.now.body }
-    ensures fits { OnOk result (are_fitting_catches (context_of R.context body.now)
-        (heads body.now.stacks.now.body.present.frames) catches.now ≡ true) }
-    ensures refused { OnErr result (are_fitting_catches (context_of R.context body.now)
-        (heads body.now.stacks.now.body.present.frames) catches.now ≡ false) }
+    requires { IsValidBody (R.context context.now.resources.now) context.now.stacks.now.body }
+    ensures fits { OnOk result (are_fitting_catches (context_of R.context context.now)
+        (heads context.now.stacks.now.body.present.frames) catches.now ≡ true) }
+    ensures refused { OnErr result (are_fitting_catches (context_of R.context context.now)
+        (heads context.now.stacks.now.body.present.frames) catches.now ≡ false) }
 {
     for catch in catches {
-        find_clause(body, *catch)?;
+        expect_clause(context, *catch)?;
     }
     Ok(())
 }
@@ -158,17 +161,18 @@ fn find_clauses<A: Refused, R: WasmModuleResources>(
 /// `try_table`: takes the parameters of its block type, and opens a frame over them. The labels of its
 /// clauses are counted outside that frame.
 pub fn try_table<A: Refused, R: WasmModuleResources>(
-    body: Body<'_, '_, R>,
+    context: OperatorContext<'_, '_, R>,
     table: &TryTable<'_>,
 ) -> Result<(), A>
-    requires { MayBegin R.context body }
-    ensures { Makes R.context A.tells (λ cx. try_table_operator cx table.now) body.entry result body.exit }
+    requires { CanCheck R.context context }
+    ensures { Checks R.context A.tells (λ cx. try_table_operator cx table.now) context.entry result context.exit }
 {
-    let block_type = check_block_type(&body, table.ty)?;
-    let params = params(body.resources, &block_type);
-    body.find_operands(0, params)?;
-    find_clauses(&body, table.catches)?;
-    let popped = params.len().min(body.stacks.own_len());
-    body.stacks
+    let block_type = check_block_type(&context, table.ty)?;
+    let params = params(context.resources, &block_type);
+    context.expect_operands(0, params)?;
+    expect_clauses(&context, table.catches)?;
+    let popped = params.len().min(context.stacks.own_operand_count());
+    context
+        .stacks
         .open(popped, FrameKind::TryTable, block_type, params)
 }

@@ -9,7 +9,7 @@ ghost use Rattle.validation_rules.specs.Descriptors.{ref_get_desc_row, ref_cast_
 ghost use Rattle.validation_rules.specs.Descriptors as descriptor_rule;
 ghost use Rattle.validation_rules.specs.Operators.{row_operator, staying_operator};
 ghost use Rattle.validation_rules.specs.Valid.{IsValidOperand};
-ghost use Rattle.validate_stacks.specs.Bodies.{context_of, MayBegin, Makes};
+ghost use Rattle.validate_stacks.specs.Bodies.{context_of, CanCheck, Checks};
 ghost use Rattle.validate_stacks.specs.Steps.{found_in_body};
 ghost use Rattle.validate_rows_gc.specs.Casts.{branch_types};
 ghost use Rattle.validate_rows_gc.specs.Descriptors.{found_descriptor};
@@ -18,7 +18,7 @@ use crate::casts::{CastBranch, cast_branch, cast_type, checked_cast, operand_of_
 use validate_resources::WasmModuleResources;
 use validate_shapes::aggregates::{declared_heap, descriptor_at, type_reference};
 use validate_shapes::canonical::canonical_heap;
-use validate_stacks::Body;
+use validate_stacks::OperatorContext;
 use validate_types::{
     HeapType, MaybeType, PackedIndex, RefType, Refusal, Refused, UnpackedIndex, ValType,
 };
@@ -49,32 +49,33 @@ fn is_found_exact<R: WasmModuleResources>(resources: &R, exact: HeapType, found:
 /// exact where what is found is.
 #[inline(never)]
 pub fn ref_get_desc<A: Refused, R: WasmModuleResources>(
-    body: Body<'_, '_, R>,
+    context: OperatorContext<'_, '_, R>,
     type_index: u32,
 ) -> Result<(), A>
-    requires { MayBegin R.context body }
-    ensures { Makes R.context A.tells (λ cx. row_operator (ref_get_desc_row cx type_index)) body.entry
-        result body.exit }
+    requires { CanCheck R.context context }
+    ensures { Checks R.context A.tells (λ cx. row_operator (ref_get_desc_row cx type_index)) context.entry
+        result context.exit }
 {
-    let from = type_reference(&body, true, type_index)?;
+    let from = type_reference(&context, true, type_index)?;
     let exact = canonical_heap(
-        body.resources,
+        context.resources,
         HeapType::Exact(UnpackedIndex::Module(type_index)),
     )?;
-    body.find_operands(0, &[from])?;
-    let Some(descriptor) = descriptor_at(body.resources, type_index)? else {
+    context.expect_operands(0, &[from])?;
+    let Some(descriptor) = descriptor_at(context.resources, type_index)? else {
         return Err(A::of(Refusal::NoDescriptor));
     };
-    let found = body.stacks.find_any(0)?;
+    let found = context.stacks.find_any(0)?;
     let pushed = RefType {
         nullable: false,
         heap_type: declared_heap(
-            is_found_exact(body.resources, exact, found),
+            is_found_exact(context.resources, exact, found),
             descriptor.unpack(),
         ),
     };
-    let own = body.stacks.own_len();
-    body.stacks
+    let own = context.stacks.own_operand_count();
+    context
+        .stacks
         .replace(own.min(1), MaybeType::Known(ValType::Ref(pushed)))
 }
 
@@ -105,23 +106,23 @@ fn descriptor_in<A: Refused, R: WasmModuleResources>(
 /// Refuses an operand on top that isn't a descriptor of this type, by which something is cast: to an exact type by an exact
 /// one (wasmparser's `check_maybe_exact_descriptor_ref`).
 #[tactic(auto, using(crate::proofs::Sets::descriptors))]
-fn find_descriptor<A: Refused, R: WasmModuleResources>(
-    body: &Body<'_, '_, R>,
+fn expect_descriptor<A: Refused, R: WasmModuleResources>(
+    context: &OperatorContext<'_, '_, R>,
     exact: bool,
     descriptor: PackedIndex,
 ) -> Result<(), A>
-    requires state { MayBegin R.context body.now }
-    requires descriptor { is_valid_index (R.context body.now.resources.now) descriptor ≡ true }
-    ensures passed { OnOk result (found_descriptor (context_of R.context body.now) exact descriptor
-        (found_in_body body.now.stacks.now.body) ≡ true) }
-    ensures refused { OnErr result (found_descriptor (context_of R.context body.now) exact descriptor
-        (found_in_body body.now.stacks.now.body) ≡ false) }
+    requires state { CanCheck R.context context.now }
+    requires descriptor { is_valid_index (R.context context.now.resources.now) descriptor ≡ true }
+    ensures passed { OnOk result (found_descriptor (context_of R.context context.now) exact descriptor
+        (found_in_body context.now.stacks.now.body) ≡ true) }
+    ensures refused { OnErr result (found_descriptor (context_of R.context context.now) exact descriptor
+        (found_in_body context.now.stacks.now.body) ≡ false) }
 {
     let expected = ValType::Ref(RefType::concrete(true, descriptor));
-    body.find_operands(0, &[expected])?;
-    let found = body.stacks.find_any(0)?;
+    context.expect_operands(0, &[expected])?;
+    let found = context.stacks.find_any(0)?;
     if exact {
-        check_exact(body.resources, descriptor, found)
+        check_exact(context.resources, descriptor, found)
     } else {
         Ok(())
     }
@@ -161,63 +162,64 @@ fn is_exact(heap_type: HeapType) -> bool
 /// `ref.cast_desc_eq`: `[(ref null top) (ref null d)] -> [t]`, with the top type of the hierarchy of the type t cast
 /// to, and the type d of its descriptors.
 pub fn ref_cast_desc_eq<A: Refused, R: WasmModuleResources>(
-    body: Body<'_, '_, R>,
+    context: OperatorContext<'_, '_, R>,
     nullable: bool,
     heap_type: &HeapType,
 ) -> Result<(), A>
-    requires { MayBegin R.context body }
-    ensures { Makes R.context A.tells (λ cx. row_operator (ref_cast_desc_eq_row cx nullable heap_type.now))
-        body.entry result body.exit }
+    requires { CanCheck R.context context }
+    ensures { Checks R.context A.tells (λ cx. row_operator (ref_cast_desc_eq_row cx nullable heap_type.now))
+        context.entry result context.exit }
 {
-    let descriptor = descriptor_in(body.resources, *heap_type)?;
-    find_descriptor(&body, is_exact(*heap_type), descriptor)?;
-    let ty = cast_type(&body, nullable, *heap_type)?;
-    let operand = operand_of_cast(body.resources, ty);
-    body.find_operands(1, &[operand])?;
-    let own = body.stacks.own_len();
-    body.stacks
+    let descriptor = descriptor_in(context.resources, *heap_type)?;
+    expect_descriptor(&context, is_exact(*heap_type), descriptor)?;
+    let ty = cast_type(&context, nullable, *heap_type)?;
+    let operand = operand_of_cast(context.resources, ty);
+    context.expect_operands(1, &[operand])?;
+    let own = context.stacks.own_operand_count();
+    context
+        .stacks
         .replace(own.min(2), MaybeType::Known(ValType::Ref(ty)))
 }
 
 /// A branch by a cast with a descriptor above the operand: what is carried to the label is of the type cast to, or isn't.
 #[inline(never)]
 fn branch_by_descriptor<A: Refused, R: WasmModuleResources>(
-    body: Body<'_, '_, R>,
+    context: OperatorContext<'_, '_, R>,
     branch: CastBranch,
     cast: BranchCast,
 ) -> Result<(), A>
-    requires { MayBegin R.context body }
-    ensures { Makes R.context A.tells (λ cx. staying_operator (λ hs. cast_desc_eq_branch_row cx hs
-        (branch_types branch) cast)) body.entry result body.exit }
+    requires { CanCheck R.context context }
+    ensures { Checks R.context A.tells (λ cx. staying_operator (λ hs. cast_desc_eq_branch_row cx hs
+        (branch_types branch) cast)) context.entry result context.exit }
 {
-    let types = checked_cast(&body, cast)?;
+    let types = checked_cast(&context, cast)?;
     let heap_type = cast.to_ref_type.heap_type();
-    let descriptor = descriptor_in(body.resources, heap_type)?;
-    find_descriptor(&body, is_exact(heap_type), descriptor)?;
-    cast_branch(body, 1, branch, cast.relative_depth, types)
+    let descriptor = descriptor_in(context.resources, heap_type)?;
+    expect_descriptor(&context, is_exact(heap_type), descriptor)?;
+    cast_branch(context, 1, branch, cast.relative_depth, types)
 }
 
 /// `br_on_cast_desc_eq`: `[t from (ref null d)] -> [t left]`, as `br_on_cast` with a descriptor above the operand.
 pub fn br_on_cast_desc_eq<A: Refused, R: WasmModuleResources>(
-    body: Body<'_, '_, R>,
+    context: OperatorContext<'_, '_, R>,
     cast: &BranchCast,
 ) -> Result<(), A>
-    requires { MayBegin R.context body }
-    ensures { Makes R.context A.tells (λ cx. staying_operator (λ hs. br_on_cast_desc_eq_row cx hs cast.now))
-        body.entry result body.exit }
+    requires { CanCheck R.context context }
+    ensures { Checks R.context A.tells (λ cx. staying_operator (λ hs. br_on_cast_desc_eq_row cx hs cast.now))
+        context.entry result context.exit }
 {
-    branch_by_descriptor(body, CastBranch::OnCast, *cast)
+    branch_by_descriptor(context, CastBranch::OnCast, *cast)
 }
 
 /// `br_on_cast_desc_eq_fail`: `[t from (ref null d)] -> [t to]`, as `br_on_cast_fail` with a descriptor above the
 /// operand.
 pub fn br_on_cast_desc_eq_fail<A: Refused, R: WasmModuleResources>(
-    body: Body<'_, '_, R>,
+    context: OperatorContext<'_, '_, R>,
     cast: &BranchCast,
 ) -> Result<(), A>
-    requires { MayBegin R.context body }
-    ensures { Makes R.context A.tells (λ cx. staying_operator (λ hs. br_on_cast_desc_eq_fail_row cx hs
-        cast.now)) body.entry result body.exit }
+    requires { CanCheck R.context context }
+    ensures { Checks R.context A.tells (λ cx. staying_operator (λ hs. br_on_cast_desc_eq_fail_row cx hs
+        cast.now)) context.entry result context.exit }
 {
-    branch_by_descriptor(body, CastBranch::OnCastFail, *cast)
+    branch_by_descriptor(context, CastBranch::OnCastFail, *cast)
 }

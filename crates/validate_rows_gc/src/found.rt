@@ -11,13 +11,13 @@ ghost use Rattle.validation_rules.specs.Found as rule;
 ghost use Rattle.validation_rules.specs.Operators.{row_operator, conversion_row};
 ghost use Rattle.validation_rules.specs.References.{i31};
 ghost use Rattle.validation_rules.specs.Valid.{IsValidOperand};
-ghost use Rattle.validate_stacks.specs.Bodies.{MayBegin, Makes};
+ghost use Rattle.validate_stacks.specs.Bodies.{CanCheck, Checks};
 ghost use Rattle.validate_stacks.specs.State.{IsValidBody};
 ghost use Rattle.validate_stacks.specs.Steps.{found_after_pops_in_body};
 
 use validate_resources::WasmModuleResources;
 use validate_shapes::plain::unary;
-use validate_stacks::Body;
+use validate_stacks::OperatorContext;
 use validate_types::{AbstractHeapType, HeapType, MaybeType, RefType, Refusal, Refused, ValType};
 
 /// The nullable references to this abstract type, of the sharedness of another.
@@ -76,19 +76,19 @@ fn not_below<A: Refused>(expected: AbstractHeapType, found: MaybeType) -> A {
 /// type, of its own sharedness (wasmparser's `pop_maybe_shared_ref`).
 #[inline(always)]
 fn find_below<A: Refused, R: WasmModuleResources>(
-    body: &Body<'_, '_, R>,
+    context: &OperatorContext<'_, '_, R>,
     depth: usize,
     expected: AbstractHeapType,
 ) -> Result<MaybeType, A>
-    requires { IsValidBody (R.context body.now.resources.now) body.now.stacks.now.body }
-    ensures found { IfOk result (λ t. found_after_pops_in_body depth body.now.stacks.now.body ≡ Some t) }
-    ensures passed { IfOk result (λ t. is_found_below (R.context body.now.resources.now) expected t ≡ true) }
-    ensures operand { IfOk result (λ t. IsValidOperand (R.context body.now.resources.now) t) }
-    ensures refused { OnErr result (option_and_then (operand_found_below (R.context body.now.resources.now)
-        expected) (found_after_pops_in_body depth body.now.stacks.now.body) ≡ None) }
+    requires { IsValidBody (R.context context.now.resources.now) context.now.stacks.now.body }
+    ensures found { IfOk result (λ t. found_after_pops_in_body depth context.now.stacks.now.body ≡ Some t) }
+    ensures passed { IfOk result (λ t. is_found_below (R.context context.now.resources.now) expected t ≡ true) }
+    ensures operand { IfOk result (λ t. IsValidOperand (R.context context.now.resources.now) t) }
+    ensures refused { OnErr result (option_and_then (operand_found_below (R.context context.now.resources.now)
+        expected) (found_after_pops_in_body depth context.now.stacks.now.body) ≡ None) }
 {
-    let found = body.stacks.find_any(depth)?;
-    if is_found_below(body.resources, expected, found) {
+    let found = context.stacks.find_any(depth)?;
+    if is_found_below(context.resources, expected, found) {
         Ok(found)
     } else {
         Err(not_below(expected, found))
@@ -97,17 +97,18 @@ fn find_below<A: Refused, R: WasmModuleResources>(
 
 /// `array.len`, `i31.get_s` and `i31.get_u`: `[r] -> [i32]` of a reference r below this abstract type.
 #[inline(never)]
-pub fn measure<A: Refused, R: WasmModuleResources>(
-    body: Body<'_, '_, R>,
+pub fn ref_to_i32<A: Refused, R: WasmModuleResources>(
+    context: OperatorContext<'_, '_, R>,
     expected: AbstractHeapType,
 ) -> Result<(), A>
-    requires { MayBegin R.context body }
-    ensures { Makes R.context A.tells (λ cx. row_operator (measure_row cx expected)) body.entry
-        result body.exit }
+    requires { CanCheck R.context context }
+    ensures { Checks R.context A.tells (λ cx. row_operator (measure_row cx expected)) context.entry
+        result context.exit }
 {
-    find_below(&body, 0, expected)?;
-    let own = body.stacks.own_len();
-    body.stacks
+    find_below(&context, 0, expected)?;
+    let own = context.stacks.own_operand_count();
+    context
+        .stacks
         .replace(own.min(1), MaybeType::Known(ValType::I32))
 }
 
@@ -139,18 +140,18 @@ fn converted<R: WasmModuleResources>(
 /// type, which becomes one to the other.
 #[inline(never)]
 pub fn convert_ref<A: Refused, R: WasmModuleResources>(
-    body: Body<'_, '_, R>,
+    context: OperatorContext<'_, '_, R>,
     from: AbstractHeapType,
     into: AbstractHeapType,
 ) -> Result<(), A>
-    requires { MayBegin R.context body }
-    ensures { Makes R.context A.tells (λ cx. row_operator (convert_ref_row cx from into)) body.entry
-        result body.exit }
+    requires { CanCheck R.context context }
+    ensures { Checks R.context A.tells (λ cx. row_operator (convert_ref_row cx from into)) context.entry
+        result context.exit }
 {
-    let found = find_below(&body, 0, from)?;
-    let made = converted(body.resources, into, found);
-    let own = body.stacks.own_len();
-    body.stacks.replace(own.min(1), made)
+    let found = find_below(&context, 0, from)?;
+    let made = converted(context.resources, into, found);
+    let own = context.stacks.own_operand_count();
+    context.stacks.replace(own.min(1), made)
 }
 
 /// Whether two operands are of the same sharedness, where both are known.
@@ -169,26 +170,31 @@ fn is_same_sharedness<R: WasmModuleResources>(resources: &R, a: MaybeType, b: Ma
 
 /// `ref.eq`: `[r r] -> [i32]` of two references below `eq`, of the same sharedness.
 #[inline(never)]
-pub fn ref_eq<A: Refused, R: WasmModuleResources>(body: Body<'_, '_, R>) -> Result<(), A>
-    requires { MayBegin R.context body }
-    ensures { Makes R.context A.tells (λ cx. row_operator (ref_eq_row cx)) body.entry result body.exit }
+pub fn ref_eq<A: Refused, R: WasmModuleResources>(
+    context: OperatorContext<'_, '_, R>,
+) -> Result<(), A>
+    requires { CanCheck R.context context }
+    ensures { Checks R.context A.tells (λ cx. row_operator (ref_eq_row cx)) context.entry result context.exit }
 {
-    let above = find_below(&body, 0, AbstractHeapType::Eq)?;
-    let below = find_below(&body, 1, AbstractHeapType::Eq)?;
-    if !is_same_sharedness(body.resources, below, above) {
+    let above = find_below(&context, 0, AbstractHeapType::Eq)?;
+    let below = find_below(&context, 1, AbstractHeapType::Eq)?;
+    if !is_same_sharedness(context.resources, below, above) {
         return Err(A::of(Refusal::OtherSharedness));
     }
-    let own = body.stacks.own_len();
-    body.stacks
+    let own = context.stacks.own_operand_count();
+    context
+        .stacks
         .replace(own.min(2), MaybeType::Known(ValType::I32))
 }
 
 /// `ref.i31`: `[i32] -> [(ref i31)]`.
 #[inline(never)]
-pub fn ref_i31<A: Refused, R: WasmModuleResources>(body: Body<'_, '_, R>) -> Result<(), A>
-    requires { MayBegin R.context body }
-    ensures { Makes R.context A.tells (λ cx. row_operator (conversion_row i31 ValType.I32)) body.entry
-        result body.exit }
+pub fn ref_i31<A: Refused, R: WasmModuleResources>(
+    context: OperatorContext<'_, '_, R>,
+) -> Result<(), A>
+    requires { CanCheck R.context context }
+    ensures { Checks R.context A.tells (λ cx. row_operator (conversion_row i31 ValType.I32)) context.entry
+        result context.exit }
 {
-    unary(body, ValType::I32, ValType::Ref(RefType::I31))
+    unary(context, ValType::I32, ValType::Ref(RefType::I31))
 }

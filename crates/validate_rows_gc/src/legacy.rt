@@ -6,14 +6,14 @@ ghost use Rattle.std.specs.Option.{ForSome};
 ghost use Rattle.validation_rules.specs.Exceptions.{exception_types, catch_operator, delegate_operator};
 ghost use Rattle.validation_rules.specs.Operators.{delimiter_operator};
 ghost use Rattle.validation_rules.specs.Rows.{BeginsCatch, catch_kind, may_catch, is_try};
-ghost use Rattle.validate_stacks.specs.Bodies.{MayBegin, Makes};
+ghost use Rattle.validate_stacks.specs.Bodies.{CanCheck, Checks};
 ghost use Rattle.validate_stacks.specs.Steps.{body_with_frame, body_without_frame, frame_at, innermost_operands};
 ghost use Rattle.validate_stacks.specs.Visits.{step_body};
 ghost use Rattle.validation_rules.specs.Static.{RowHolds, RowFails};
 
 use validate_resources::WasmModuleResources;
 use validate_shapes::tags::exception_types_at;
-use validate_stacks::Body;
+use validate_stacks::OperatorContext;
 use validate_stacks::blocks::results;
 use validate_types::{Refusal, Refused};
 use validate_visit::{BlockType, FrameKind};
@@ -22,52 +22,56 @@ use validate_visit::{BlockType, FrameKind};
 /// exception with this tag carries. It refuses after a frame of another kind, and a tag that is none.
 #[tactic(auto, using(crate::proofs::Sets::catches))]
 pub fn catch<A: Refused, R: WasmModuleResources>(
-    body: Body<'_, '_, R>,
+    context: OperatorContext<'_, '_, R>,
     tag_index: u32,
 ) -> Result<(), A>
-    requires { MayBegin R.context body }
-    ensures { Makes R.context A.tells (λ cx. catch_operator (exception_types cx.of_module tag_index))
-        body.entry result body.exit }
+    requires { CanCheck R.context context }
+    ensures { Checks R.context A.tells (λ cx. catch_operator (exception_types cx.of_module tag_index))
+        context.entry result context.exit }
 {
-    let (popped, block_type) = find_part(&body, Refusal::CatchOutsideTry)?;
-    let types = exception_types_at(body.resources, tag_index)?;
-    body.stacks
+    let (popped, block_type) = find_part(&context, Refusal::CatchOutsideTry)?;
+    let types = exception_types_at(context.resources, tag_index)?;
+    context
+        .stacks
         .reopen_with(popped, FrameKind::LegacyCatch, block_type, types)
 }
 
 /// `catch_all`: closes a part of a `try`, which has to have exactly its results, and begins one with
 /// nothing. It refuses after a frame of another kind.
 #[tactic(auto, using(crate::proofs::Sets::catches))]
-pub fn catch_all<A: Refused, R: WasmModuleResources>(body: Body<'_, '_, R>) -> Result<(), A>
-    requires { MayBegin R.context body }
-    ensures { Makes R.context A.tells (λ cx. delimiter_operator (BeginsCatch true [])) body.entry
-        result body.exit }
+pub fn catch_all<A: Refused, R: WasmModuleResources>(
+    context: OperatorContext<'_, '_, R>,
+) -> Result<(), A>
+    requires { CanCheck R.context context }
+    ensures { Checks R.context A.tells (λ cx. delimiter_operator (BeginsCatch true [])) context.entry
+        result context.exit }
 {
-    let (popped, block_type) = find_part(&body, Refusal::CatchAllOutsideTry)?;
-    body.stacks
+    let (popped, block_type) = find_part(&context, Refusal::CatchAllOutsideTry)?;
+    context
+        .stacks
         .reopen_with(popped, FrameKind::LegacyCatchAll, block_type, &[])
 }
 
 /// How many own operands the innermost frame has, where they are its results, and its block type. It gives this refusal where
 /// no `catch` may stand after that frame.
 fn find_part<A: Refused, R: WasmModuleResources>(
-    body: &Body<'_, '_, R>,
+    context: &OperatorContext<'_, '_, R>,
     outside: Refusal,
 ) -> Result<(usize, BlockType), A>
-    requires { MayBegin R.context body.now }
-    ensures own { IfOk result (λ part. part.0 ≡ length (innermost_operands body.now.stacks.now.body.present.frames)) }
-    ensures block { IfOk result (λ part. ForSome (frame_at body.now.stacks.now.body 0)
+    requires { CanCheck R.context context.now }
+    ensures own { IfOk result (λ part. part.0 ≡ length (innermost_operands context.now.stacks.now.body.present.frames)) }
+    ensures block { IfOk result (λ part. ForSome (frame_at context.now.stacks.now.body 0)
         (λ f. f.block_type ≡ part.1)) }
-    ensures begins { IfOk result (λ part. (all : Bool) → RowHolds (step_body (R.context body.now.resources.now)
-        (λ cx. delimiter_operator (BeginsCatch all [])) body.now.stacks.now.body)
-        (body_with_frame (catch_kind all) part.1 (body_without_frame body.now.stacks.now.body))) }
-    ensures refused { OnErr result ((all : Bool) → RowFails (step_body (R.context body.now.resources.now)
-        (λ cx. delimiter_operator (BeginsCatch all [])) body.now.stacks.now.body)) }
+    ensures begins { IfOk result (λ part. (all : Bool) → RowHolds (step_body (R.context context.now.resources.now)
+        (λ cx. delimiter_operator (BeginsCatch all [])) context.now.stacks.now.body)
+        (body_with_frame (catch_kind all) part.1 (body_without_frame context.now.stacks.now.body))) }
+    ensures refused { OnErr result ((all : Bool) → RowFails (step_body (R.context context.now.resources.now)
+        (λ cx. delimiter_operator (BeginsCatch all [])) context.now.stacks.now.body)) }
 {
-    let Some(frame) = body.stacks.get_frame(0) else {
+    let Some(frame) = context.stacks.get_frame(0) else {
         unreachable!()
     };
-    let popped = body.find_results(results(body.resources, &frame.block_type))?;
+    let popped = context.find_results(results(context.resources, &frame.block_type))?;
     if !may_catch(frame.kind) {
         return Err(A::of(outside));
     }
@@ -85,25 +89,25 @@ fn may_catch(kind: FrameKind) -> bool
 /// next outer frame. The label is counted outside the frame that it closes, and has to exist. It refuses
 /// after a frame of another kind.
 pub fn delegate<A: Refused, R: WasmModuleResources>(
-    body: Body<'_, '_, R>,
+    context: OperatorContext<'_, '_, R>,
     relative_depth: u32,
 ) -> Result<(), A>
-    requires { MayBegin R.context body }
-    ensures { Makes R.context A.tells (λ cx. delegate_operator relative_depth) body.entry result body.exit }
+    requires { CanCheck R.context context }
+    ensures { Checks R.context A.tells (λ cx. delegate_operator relative_depth) context.entry result context.exit }
 {
-    let Some(frame) = body.stacks.get_frame(0) else {
+    let Some(frame) = context.stacks.get_frame(0) else {
         unreachable!()
     };
     let (kind, block_type) = (frame.kind, frame.block_type);
-    let results = results(body.resources, &block_type);
-    let popped = body.find_results(results)?;
+    let results = results(context.resources, &block_type);
+    let popped = context.find_results(results)?;
     if !is_try(kind) {
         return Err(A::of(Refusal::DelegateOutsideTry));
     }
-    let Some(_) = body.stacks.get_frame(relative_depth as usize + 1) else {
+    let Some(_) = context.stacks.get_frame(relative_depth as usize + 1) else {
         return Err(A::of(Refusal::UnknownLabel));
     };
-    body.stacks.close(popped, results)
+    context.stacks.close(popped, results)
 }
 
 /// Whether it is the body of a `try`.

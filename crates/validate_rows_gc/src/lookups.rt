@@ -11,7 +11,7 @@ ghost use Rattle.validate_stacks.specs.Bodies.{context_of};
 
 use validate_resources::WasmModuleResources;
 use validate_resources::kinds::{continuation_of, func_type_of};
-use validate_stacks::Body;
+use validate_stacks::OperatorContext;
 use validate_types::{
     ContType, FuncType, HeapType, Refusal, Refused, UnpackedIndex, ValType, func_signature_matches,
 };
@@ -19,21 +19,21 @@ use validate_types::{
 /// The continuation type at an index (wasmparser's `cont_type_at`). It refuses one that isn't declared, a type of another kind,
 /// and in a shared function one that isn't shared.
 pub fn cont_type_at<A: Refused, R: WasmModuleResources>(
-    body: &Body<'_, '_, R>,
+    context: &OperatorContext<'_, '_, R>,
     type_index: u32,
 ) -> Result<ContType, A>
-    ensures found { IfOk result (λ c. continuation_type (context_of R.context body.now)
+    ensures found { IfOk result (λ c. continuation_type (context_of R.context context.now)
         type_index ≡ Some c.0) }
-    ensures continuation { IfOk result (λ c. IsContinuation (R.context body.now.resources.now) c.0) }
-    ensures refused { OnErr result (continuation_type (context_of R.context body.now) type_index ≡ None) }
+    ensures continuation { IfOk result (λ c. IsContinuation (R.context context.now.resources.now) c.0) }
+    ensures refused { OnErr result (continuation_type (context_of R.context context.now) type_index ≡ None) }
 {
-    let Some(sub_type) = body.resources.sub_type_at(type_index) else {
+    let Some(sub_type) = context.resources.sub_type_at(type_index) else {
         return Err(A::of(Refusal::UnknownType));
     };
     let Some(index) = continuation_of(sub_type) else {
         return Err(A::of(Refusal::NoContinuationType(type_index)));
     };
-    if body.stacks.is_shared() && !sub_type.composite_type.shared {
+    if context.stacks.is_shared() && !sub_type.composite_type.shared {
         return Err(A::of(Refusal::UnsharedContinuation));
     }
     Ok(ContType(index))
@@ -61,20 +61,20 @@ pub fn func_type_of_cont_type<'a, R: WasmModuleResources>(
 
 /// What a continuation of the type at an index still takes and gives. It refuses as [`cont_type_at`] does.
 pub fn func_type_of_cont_at<'a, A: Refused, R: WasmModuleResources>(
-    body: &Body<'_, 'a, R>,
+    context: &OperatorContext<'_, 'a, R>,
     type_index: u32,
 ) -> Result<&'a FuncType, A>
-    ensures found { IfOk result (λ f. continuation_signature (context_of R.context body.now)
+    ensures found { IfOk result (λ f. continuation_signature (context_of R.context context.now)
         type_index ≡ Some f.now) }
-    ensures params { IfOk result (λ f. AllByRecursion (Valid (R.context body.now.resources.now))
+    ensures params { IfOk result (λ f. AllByRecursion (Valid (R.context context.now.resources.now))
         f.now.params) }
-    ensures results { IfOk result (λ f. AllByRecursion (Valid (R.context body.now.resources.now))
+    ensures results { IfOk result (λ f. AllByRecursion (Valid (R.context context.now.resources.now))
         f.now.results) }
-    ensures refused { OnErr result (continuation_signature (context_of R.context body.now)
+    ensures refused { OnErr result (continuation_signature (context_of R.context context.now)
         type_index ≡ None) }
 {
-    let cont_type = cont_type_at(body, type_index)?;
-    Ok(func_type_of_cont_type(body.resources, cont_type))
+    let cont_type = cont_type_at(context, type_index)?;
+    Ok(func_type_of_cont_type(context.resources, cont_type))
 }
 
 /// Whether it is a reference to a type of the module.

@@ -12,7 +12,7 @@ ghost use Rattle.validation_rules.specs.Operators.{row_operator, conversion_row}
 ghost use Rattle.validation_rules.specs.Shared.{is_accessible, shared_global_row, shared_table_row, shared_struct_row, shared_array_row, shared_i31, shared_row};
 ghost use Rattle.validation_rules.specs.Shared as rule;
 ghost use Rattle.validation_rules.specs.Structs.{field_value};
-ghost use Rattle.validate_stacks.specs.Bodies.{context_of, MayBegin, Makes};
+ghost use Rattle.validate_stacks.specs.Bodies.{context_of, CanCheck, Checks};
 ghost use Rattle.validate_stacks.specs.State.{IsValidBody};
 ghost use Rattle.validate_shapes.specs.Operands.{few_types};
 ghost use Rattle.validate_rows_gc.specs.Accesses.{AreValidTested, tested_row};
@@ -27,7 +27,7 @@ use validate_shapes::globals::find_global;
 use validate_shapes::operands::{Few, Operands, Pushed, exchange_operands};
 use validate_shapes::plain::unary;
 use validate_shapes::tables::table_type_at;
-use validate_stacks::Body;
+use validate_stacks::OperatorContext;
 use validate_types::{
     AbstractHeapType, FieldType, GlobalType, HeapType, RefType, Refusal, Refused, StorageType,
     ValType,
@@ -167,21 +167,21 @@ fn check_global_written<A: Refused>(access: Update, global: GlobalType) -> Resul
 
 /// What an operator on globals takes and gives.
 fn global_access_types<A: Refused, R: WasmModuleResources>(
-    body: &Body<'_, '_, R>,
+    context: &OperatorContext<'_, '_, R>,
     access: Update,
     global_index: u32,
 ) -> Result<TestedOperands, A>
-    ensures row { IfOk result (λ t. shared_global_row (context_of R.context body.now) access
+    ensures row { IfOk result (λ t. shared_global_row (context_of R.context context.now) access
         global_index ≡ tested_row t) }
-    ensures valid { IfOk result (AreValidTested (R.context body.now.resources.now)) }
-    ensures refused { IfErr result (λ e. A.tells e → (shared_global_row (context_of R.context body.now) access
+    ensures valid { IfOk result (AreValidTested (R.context context.now.resources.now)) }
+    ensures refused { IfErr result (λ e. A.tells e → (shared_global_row (context_of R.context context.now) access
         global_index).premise ≡ false) }
 {
-    let global = find_global(body, global_index)?;
+    let global = find_global(context, global_index)?;
     let whole = FieldAccess::Whole(access);
     check_global_written(access, global)?;
     let value = global.content_type;
-    let allowed = is_allowed(body.resources, false, whole, StorageType::Val(value));
+    let allowed = is_allowed(context.resources, false, whole, StorageType::Val(value));
     if !allowed && !is_tested_late(whole) {
         return Err(global_not_allowed(access));
     }
@@ -194,20 +194,20 @@ fn global_access_types<A: Refused, R: WasmModuleResources>(
 
 /// What an operator on tables takes and gives.
 fn table_access_types<A: Refused, R: WasmModuleResources>(
-    body: &Body<'_, '_, R>,
+    context: &OperatorContext<'_, '_, R>,
     access: Exchange,
     table_index: u32,
 ) -> Result<TestedOperands, A>
-    ensures row { IfOk result (λ t. shared_table_row (context_of R.context body.now) access
+    ensures row { IfOk result (λ t. shared_table_row (context_of R.context context.now) access
         table_index ≡ tested_row t) }
-    ensures valid { IfOk result (AreValidTested (R.context body.now.resources.now)) }
-    ensures refused { IfErr result (λ e. A.tells e → (shared_table_row (context_of R.context body.now) access
+    ensures valid { IfOk result (AreValidTested (R.context context.now.resources.now)) }
+    ensures refused { IfErr result (λ e. A.tells e → (shared_table_row (context_of R.context context.now) access
         table_index).premise ≡ false) }
 {
-    let table = table_type_at(body, table_index)?;
+    let table = table_type_at(context, table_index)?;
     let whole = FieldAccess::Whole(Update::Value(access));
     let value = ValType::Ref(table.element_type);
-    let allowed = is_allowed(body.resources, true, whole, StorageType::Val(value));
+    let allowed = is_allowed(context.resources, true, whole, StorageType::Val(value));
     if !allowed && !is_tested_late(whole) {
         return Err(table_not_allowed(access));
     }
@@ -281,19 +281,19 @@ fn check_field<A: Refused, R: WasmModuleResources>(
 
 /// What an operator on structs takes and gives.
 fn struct_access_types<A: Refused, R: WasmModuleResources>(
-    body: &Body<'_, '_, R>,
+    context: &OperatorContext<'_, '_, R>,
     access: FieldAccess,
     field: FieldIndex,
 ) -> Result<TestedOperands, A>
-    ensures row { IfOk result (λ t. shared_struct_row (context_of R.context body.now) access
+    ensures row { IfOk result (λ t. shared_struct_row (context_of R.context context.now) access
         field ≡ tested_row t) }
-    ensures valid { IfOk result (AreValidTested (R.context body.now.resources.now)) }
-    ensures refused { IfErr result (λ e. A.tells e → (shared_struct_row (context_of R.context body.now) access
+    ensures valid { IfOk result (AreValidTested (R.context context.now.resources.now)) }
+    ensures refused { IfErr result (λ e. A.tells e → (shared_struct_row (context_of R.context context.now) access
         field).premise ≡ false) }
 {
-    let held = struct_field_at(body, field)?;
-    let allowed = check_field(body.resources, Aggregate::Struct, access, held)?;
-    let holder = type_reference(body, true, field.struct_type_index)?;
+    let held = struct_field_at(context, field)?;
+    let allowed = check_field(context.resources, Aggregate::Struct, access, held)?;
+    let holder = type_reference(context, true, field.struct_type_index)?;
     let value = held.element_type.unpack();
     Ok(TestedOperands {
         expected: expected_by(PlaceOperands::One(holder), access, value),
@@ -304,19 +304,19 @@ fn struct_access_types<A: Refused, R: WasmModuleResources>(
 
 /// What an atomic access of an array takes and gives.
 fn array_access_types<A: Refused, R: WasmModuleResources>(
-    body: &Body<'_, '_, R>,
+    context: &OperatorContext<'_, '_, R>,
     access: FieldAccess,
     type_index: u32,
 ) -> Result<TestedOperands, A>
-    ensures row { IfOk result (λ t. shared_array_row (context_of R.context body.now) access
+    ensures row { IfOk result (λ t. shared_array_row (context_of R.context context.now) access
         type_index ≡ tested_row t) }
-    ensures valid { IfOk result (AreValidTested (R.context body.now.resources.now)) }
-    ensures refused { IfErr result (λ e. A.tells e → (shared_array_row (context_of R.context body.now) access
+    ensures valid { IfOk result (AreValidTested (R.context context.now.resources.now)) }
+    ensures refused { IfErr result (λ e. A.tells e → (shared_array_row (context_of R.context context.now) access
         type_index).premise ≡ false) }
 {
-    let held = array_field_at(body, type_index)?;
-    let allowed = check_field(body.resources, Aggregate::Array, access, held)?;
-    let holder = type_reference(body, true, type_index)?;
+    let held = array_field_at(context, type_index)?;
+    let allowed = check_field(context.resources, Aggregate::Array, access, held)?;
+    let holder = type_reference(context, true, type_index)?;
     let value = held.element_type.unpack();
     Ok(TestedOperands {
         expected: expected_by(PlaceOperands::Two(holder, ValType::I32), access, value),
@@ -327,13 +327,13 @@ fn array_access_types<A: Refused, R: WasmModuleResources>(
 
 /// What an atomic operator takes and gives, by the place that it names.
 fn access_types<A: Refused, R: WasmModuleResources>(
-    body: &Body<'_, '_, R>,
+    context: &OperatorContext<'_, '_, R>,
     op: SharedOp,
 ) -> Result<TestedOperands, A>
     requires { op ≢ SharedOp.RefI31Shared }
-    ensures row { IfOk result (λ t. shared_row (context_of R.context body.now) op ≡ tested_row t) }
-    ensures valid { IfOk result (AreValidTested (R.context body.now.resources.now)) }
-    ensures refused { IfErr result (λ e. A.tells e → (shared_row (context_of R.context body.now)
+    ensures row { IfOk result (λ t. shared_row (context_of R.context context.now) op ≡ tested_row t) }
+    ensures valid { IfOk result (AreValidTested (R.context context.now.resources.now)) }
+    ensures refused { IfErr result (λ e. A.tells e → (shared_row (context_of R.context context.now)
         op).premise ≡ false) }
 {
     match op {
@@ -342,59 +342,64 @@ fn access_types<A: Refused, R: WasmModuleResources>(
             access,
             global_index,
             ..
-        } => global_access_types(body, access, global_index),
+        } => global_access_types(context, access, global_index),
         SharedOp::Table {
             access,
             table_index,
             ..
-        } => table_access_types(body, access, table_index),
-        SharedOp::Struct { access, field, .. } => { struct_access_types(body, access, field) }
+        } => table_access_types(context, access, table_index),
+        SharedOp::Struct { access, field, .. } => { struct_access_types(context, access, field) }
         SharedOp::Array {
             access,
             type_index,
             ..
-        } => array_access_types(body, access, type_index),
+        } => array_access_types(context, access, type_index),
     }
 }
 
-/// That pops of these types would pass, the last on top. It refuses as [`Body::find_operands`] does.
-fn find_few<A: Refused, R: WasmModuleResources>(
-    body: &Body<'_, '_, R>,
+/// That pops of these types would pass, the last on top. It refuses as [`OperatorContext::expect_operands`] does.
+fn expect_few<A: Refused, R: WasmModuleResources>(
+    context: &OperatorContext<'_, '_, R>,
     expected: Few,
 ) -> Result<(), A>
-    requires types { AllByRecursion (Valid (R.context body.now.resources.now)) (few_types expected) }
-    requires state { IsValidBody (R.context body.now.resources.now) body.now.stacks.now.body }
+    requires types { AllByRecursion (Valid (R.context context.now.resources.now)) (few_types expected) }
+    requires state { IsValidBody (R.context context.now.resources.now) context.now.stacks.now.body }
 {
     match expected {
         Few::Zero => Ok(()),
-        Few::One(a) => body.find_operands(0, &[a]),
-        Few::Two(a, b) => body.find_operands(0, &[a, b]),
-        Few::Three(a, b, c) => body.find_operands(0, &[a, b, c]),
-        Few::Four(a, b, c, d) => body.find_operands(0, &[a, b, c, d]),
-        Few::Five(a, b, c, d, e) => body.find_operands(0, &[a, b, c, d, e]),
+        Few::One(a) => context.expect_operands(0, &[a]),
+        Few::Two(a, b) => context.expect_operands(0, &[a, b]),
+        Few::Three(a, b, c) => context.expect_operands(0, &[a, b, c]),
+        Few::Four(a, b, c, d) => context.expect_operands(0, &[a, b, c, d]),
+        Few::Five(a, b, c, d, e) => context.expect_operands(0, &[a, b, c, d, e]),
     }
 }
 
 /// An atomic operator. What its place doesn't allow is refused after operands that aren't there or don't fit.
-fn access<A: Refused, R: WasmModuleResources>(body: Body<'_, '_, R>, op: SharedOp) -> Result<(), A>
-    requires visit { MayBegin R.context body }
+fn access<A: Refused, R: WasmModuleResources>(
+    context: OperatorContext<'_, '_, R>,
+    op: SharedOp,
+) -> Result<(), A>
+    requires visit { CanCheck R.context context }
     requires access { op ≢ SharedOp.RefI31Shared }
-    ensures { Makes R.context A.tells (λ cx. row_operator (shared_row cx op)) body.entry result body.exit }
+    ensures { Checks R.context A.tells (λ cx. row_operator (shared_row cx op)) context.entry result context.exit }
 {
-    let access = access_types(&body, op)?;
+    let access = access_types(&context, op)?;
     if access.allowed {
-        exchange_operands(body, Operands::few(access.expected, access.pushed))
+        exchange_operands(context, Operands::few(access.expected, access.pushed))
     } else {
-        find_few(&body, access.expected)?;
+        expect_few(&context, access.expected)?;
         Err(not_allowed_late(op))
     }
 }
 
 /// `ref.i31_shared`: `[i32] -> [(ref (shared i31))]`.
-fn ref_i31_shared<A: Refused, R: WasmModuleResources>(body: Body<'_, '_, R>) -> Result<(), A>
-    requires { MayBegin R.context body }
-    ensures { Makes R.context A.tells (λ cx. row_operator (conversion_row shared_i31 I32)) body.entry
-        result body.exit }
+fn ref_i31_shared<A: Refused, R: WasmModuleResources>(
+    context: OperatorContext<'_, '_, R>,
+) -> Result<(), A>
+    requires { CanCheck R.context context }
+    ensures { Checks R.context A.tells (λ cx. row_operator (conversion_row shared_i31 I32)) context.entry
+        result context.exit }
 {
     let made = RefType {
         nullable: false,
@@ -403,20 +408,20 @@ fn ref_i31_shared<A: Refused, R: WasmModuleResources>(body: Body<'_, '_, R>) -> 
             ty: AbstractHeapType::I31,
         },
     };
-    unary(body, ValType::I32, ValType::Ref(made))
+    unary(context, ValType::I32, ValType::Ref(made))
 }
 
 /// An operator of shared-everything threads, its gate aside.
 #[inline(never)]
 pub fn shared_operator<A: Refused, R: WasmModuleResources>(
-    body: Body<'_, '_, R>,
+    context: OperatorContext<'_, '_, R>,
     op: SharedOp,
 ) -> Result<(), A>
-    requires { MayBegin R.context body }
-    ensures { Makes R.context A.tells (λ cx. row_operator (shared_row cx op)) body.entry result body.exit }
+    requires { CanCheck R.context context }
+    ensures { Checks R.context A.tells (λ cx. row_operator (shared_row cx op)) context.entry result context.exit }
 {
     match op {
-        SharedOp::RefI31Shared => ref_i31_shared(body),
-        _ => access(body, op),
+        SharedOp::RefI31Shared => ref_i31_shared(context),
+        _ => access(context, op),
     }
 }

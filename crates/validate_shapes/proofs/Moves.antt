@@ -9,7 +9,7 @@ use Rattle.validation_rules.specs.Context.{Context}
 use Rattle.validation_rules.specs.Rows.{Operator, Head, Row}
 use Rattle.validation_rules.specs.Operators.{plain_row, row_operator, staying_operator}
 use Rattle.validation_rules.specs.Static.{Frame, heads}
-use Rattle.validate_stacks.specs.AtOnce.{MeetsAtOnce}
+use Rattle.validate_stacks.specs.AtOnce.{MeetsOrUnchanged}
 use Rattle.validate_stacks.specs.Attempts.{Stacked}
 use Rattle.validate_stacks.specs.Moves.{Moves, Takes, Exchanges}
 use Rattle.validate_stacks.specs.Pops.{IsKept, body_popped_each, body_pushed_each, has_operands_fitting}
@@ -56,8 +56,8 @@ module _ {E : Type 0} (md : ModuleContext) (tells : E → Type 0) (op : Context 
   takes_moves expected f is valid kept state (Err e) x = (x.0, λ t. is ∙ ap (option_map f) (x.1 t))
 
   -- at an answer that never tells
-  pub moves_at_once : (r : Result (Unit {0}) E) (b : Bool) → b ≡ is_ok r → Moves md tells op s r w → MeetsAtOnce md op s b w
-  unfolding Moves MeetsAtOnce
+  pub moves_at_once : (r : Result (Unit {0}) E) (b : Bool) → b ≡ is_ok r → Moves md tells op s r w → MeetsOrUnchanged md op s b w
+  unfolding Moves MeetsOrUnchanged
   moves_at_once (Ok u) true e m = λ offset. meets_done md op offset s.body w.body m.step m.valid m.kept
   moves_at_once (Ok u) false e m = absurd cc
   moves_at_once (Err x) true e m = absurd cc

@@ -13,7 +13,7 @@ use Rattle.validate_shapes.specs.declared.operands.Operands.{Operands}
 use Rattle.validate_shapes.specs.declared.operands.Pushed.{Pushed}
 use Rattle.validate_shapes.specs.declared.operands.Pushed.TheVariants.{Nothing, One as OnePushed, Listed as ListPushed}
 use Rattle.validate_shapes.specs.declared.operands.Expected.{Expected}
-use Rattle.validate_shapes.specs.declared.operands.Expected.TheVariants.{Few, Fields, Run, Listed, Under}
+use Rattle.validate_shapes.specs.declared.operands.Expected.TheVariants.{Few, Fields, Run, Listed, WithTop}
 
 abbrev pub few_types : FewTypes → List ValType
 few_types Zero = []
@@ -28,7 +28,7 @@ expected_types (Few types) = few_types types
 expected_types (Fields fields) = unpacked_fields fields.now
 expected_types (Run t count) = replicate count t
 expected_types (Listed types) = types.now
-expected_types (Under types above) = types.now ++ above ∷ []
+expected_types (WithTop types above) = types.now ++ above ∷ []
 
 abbrev pub pushed_types : Pushed → List ValType
 pushed_types Nothing = []
@@ -45,7 +45,7 @@ AreValidExpected md (Few types) = AllByRecursion (Valid md) (few_types types)
 AreValidExpected md (Fields fields) = AllByRecursion (Valid md) (unpacked_fields fields.now)
 AreValidExpected md (Run t count) = Valid md t
 AreValidExpected md (Listed types) = AllByRecursion (Valid md) types.now
-AreValidExpected md (Under types above) = AllByRecursion (Valid md) types.now × Valid md above
+AreValidExpected md (WithTop types above) = AllByRecursion (Valid md) types.now × Valid md above
 
 abbrev pub AreValidOperands : ModuleContext → Operands → Type 0
 AreValidOperands md t = AreValidExpected md t.expected × AllByRecursion (Valid md) (pushed_types t.pushed)

@@ -12,7 +12,7 @@ ghost use Rattle.validate_stacks.specs.Bodies.{context_of};
 use crate::aggregates::{array_field_at, check_mutable_array, type_reference};
 use crate::memories::check_memory_index;
 use validate_resources::WasmModuleResources;
-use validate_stacks::Body;
+use validate_stacks::OperatorContext;
 use validate_types::{FieldType, Refusal, Refused, ValType};
 use validate_visit::{MemArg, MemArgTarget};
 
@@ -67,31 +67,31 @@ fn check_places<A: Refused>(access: AccessKind, places: FieldType) -> Result<(),
 #[cold]
 #[inline(never)]
 pub fn check_array_access<A: Refused, R: WasmModuleResources>(
-    body: &Body<'_, '_, R>,
+    context: &OperatorContext<'_, '_, R>,
     access: AccessKind,
     memarg: MemArg,
     type_index: u32,
 ) -> Result<ValType, A>
     ensures found { IfOk result (λ array. address_types_for memarg
-        (target_address_types (context_of R.context body.now) (may_access_places access) (Array type_index)) ≡
+        (target_address_types (context_of R.context context.now) (may_access_places access) (Array type_index)) ≡
         Some (array ∷ I32 ∷ [])) }
-    ensures valid { IfOk result (λ array. Valid (R.context body.now.resources.now) array) }
+    ensures valid { IfOk result (λ array. Valid (R.context context.now.resources.now) array) }
     ensures refused { IfErr result (λ e. A.tells e → address_types_for memarg
-        (target_address_types (context_of R.context body.now) (may_access_places access)
+        (target_address_types (context_of R.context context.now) (may_access_places access)
         (Array type_index)) ≡ None) }
 {
     if memarg.align > memarg.max_align {
         return Err(A::of(Refusal::AlignedMore));
     }
-    if !body.stacks.features().multibyte_array_access() {
+    if !context.stacks.features().multibyte_array_access() {
         return Err(A::of(Refusal::MultibyteArraysOff));
     }
-    let places = array_field_at(body, type_index)?;
+    let places = array_field_at(context, type_index)?;
     check_places(access, places)?;
     if memarg.offset > u64::from(u32::MAX) {
         return Err(A::of(Refusal::OffsetBeyond));
     }
-    type_reference(body, true, type_index)
+    type_reference(context, true, type_index)
 }
 
 /// The type of the address of an atomic access: it accesses a memory, its alignment is the natural one,

@@ -18,7 +18,7 @@ ghost use Rattle.validate_stacks.specs.Bodies.{context_of};
 use crate::canonical::heap_reference;
 use validate_resources::WasmModuleResources;
 use validate_resources::uses::laws;
-use validate_stacks::Body;
+use validate_stacks::OperatorContext;
 use validate_types::{
     CompositeInnerType, FieldType, HeapType, PackedIndex, Packing, Refusal, Refused, StructType,
     SubType, UnpackedIndex, ValType,
@@ -53,21 +53,21 @@ fn element_of(sub_type: &SubType) -> Option<FieldType>
 /// and in a shared function one that isn't shared.
 #[inline(always)]
 pub fn struct_type_at<'a, A: Refused, R: WasmModuleResources>(
-    body: &Body<'_, 'a, R>,
+    context: &OperatorContext<'_, 'a, R>,
     type_index: u32,
 ) -> Result<&'a StructType, A>
-    ensures found { IfOk result (λ s. struct_type (context_of R.context body.now) type_index ≡ Some s.now) }
-    ensures valid { IfOk result (λ s. AllByRecursion (Valid (R.context body.now.resources.now))
+    ensures found { IfOk result (λ s. struct_type (context_of R.context context.now) type_index ≡ Some s.now) }
+    ensures valid { IfOk result (λ s. AllByRecursion (Valid (R.context context.now.resources.now))
         (unpacked_fields s.now)) }
-    ensures refused { OnErr result (struct_type (context_of R.context body.now) type_index ≡ None) }
+    ensures refused { OnErr result (struct_type (context_of R.context context.now) type_index ≡ None) }
 {
-    let Some(sub_type) = body.resources.sub_type_at(type_index) else {
+    let Some(sub_type) = context.resources.sub_type_at(type_index) else {
         return Err(A::of(Refusal::UnknownType));
     };
     let Some(struct_type) = struct_type_of(sub_type) else {
         return Err(A::of(Refusal::NoStructType(type_index)));
     };
-    if body.stacks.is_shared() && !sub_type.composite_type.shared {
+    if context.stacks.is_shared() && !sub_type.composite_type.shared {
         return Err(A::of(Refusal::UnsharedStruct));
     }
     Ok(struct_type)
@@ -76,14 +76,14 @@ pub fn struct_type_at<'a, A: Refused, R: WasmModuleResources>(
 /// A field of a struct type (wasmparser's `struct_field_at`). It refuses a place past the last.
 #[inline(always)]
 pub fn struct_field_at<A: Refused, R: WasmModuleResources>(
-    body: &Body<'_, '_, R>,
+    context: &OperatorContext<'_, '_, R>,
     index: FieldIndex,
 ) -> Result<FieldType, A>
-    ensures found { IfOk result (λ f. struct_field (context_of R.context body.now) index ≡ Some f) }
-    ensures valid { IfOk result (λ f. Valid (R.context body.now.resources.now) (field_value f)) }
-    ensures refused { OnErr result (struct_field (context_of R.context body.now) index ≡ None) }
+    ensures found { IfOk result (λ f. struct_field (context_of R.context context.now) index ≡ Some f) }
+    ensures valid { IfOk result (λ f. Valid (R.context context.now.resources.now) (field_value f)) }
+    ensures refused { OnErr result (struct_field (context_of R.context context.now) index ≡ None) }
 {
-    let struct_type = struct_type_at(body, index.struct_type_index)?;
+    let struct_type = struct_type_at(context, index.struct_type_index)?;
     match field_of(struct_type, index.field_index) {
         Some(field) => Ok(field),
         None => Err(A::of(Refusal::UnknownField)),
@@ -101,20 +101,20 @@ fn field_of(struct_type: &StructType, field_index: u32) -> Option<FieldType>
 /// What each place of the array type at an index holds (wasmparser's `array_type_at`). It refuses as [`struct_type_at`] does.
 #[inline(always)]
 pub fn array_field_at<A: Refused, R: WasmModuleResources>(
-    body: &Body<'_, '_, R>,
+    context: &OperatorContext<'_, '_, R>,
     type_index: u32,
 ) -> Result<FieldType, A>
-    ensures found { IfOk result (λ f. array_type (context_of R.context body.now) type_index ≡ Some f) }
-    ensures valid { IfOk result (λ f. Valid (R.context body.now.resources.now) (field_value f)) }
-    ensures refused { OnErr result (array_type (context_of R.context body.now) type_index ≡ None) }
+    ensures found { IfOk result (λ f. array_type (context_of R.context context.now) type_index ≡ Some f) }
+    ensures valid { IfOk result (λ f. Valid (R.context context.now.resources.now) (field_value f)) }
+    ensures refused { OnErr result (array_type (context_of R.context context.now) type_index ≡ None) }
 {
-    let Some(sub_type) = body.resources.sub_type_at(type_index) else {
+    let Some(sub_type) = context.resources.sub_type_at(type_index) else {
         return Err(A::of(Refusal::UnknownType));
     };
     let Some(element) = element_of(sub_type) else {
         return Err(A::of(Refusal::NoArrayType(type_index)));
     };
-    if body.stacks.is_shared() && !sub_type.composite_type.shared {
+    if context.stacks.is_shared() && !sub_type.composite_type.shared {
         return Err(A::of(Refusal::UnsharedArray));
     }
     Ok(element)
@@ -158,18 +158,18 @@ pub fn packing(sign: Option<Sign>) -> Packing {
 /// A reference, or one that may be null, to the type at this index, which has to be declared.
 #[inline(always)]
 pub fn type_reference<A: Refused, R: WasmModuleResources>(
-    body: &Body<'_, '_, R>,
+    context: &OperatorContext<'_, '_, R>,
     nullable: bool,
     type_index: u32,
 ) -> Result<ValType, A>
-    ensures found { IfOk result (λ t. indirect_rule.type_reference (context_of R.context body.now)
+    ensures found { IfOk result (λ t. indirect_rule.type_reference (context_of R.context context.now)
         (reference nullable) type_index ≡ Some t) }
-    ensures valid { IfOk result (λ t. Valid (R.context body.now.resources.now) t) }
+    ensures valid { IfOk result (λ t. Valid (R.context context.now.resources.now) t) }
     ensures refused { IfErr result (λ e. A.tells e → indirect_rule.type_reference
-        (context_of R.context body.now) (reference nullable) type_index ≡ None) }
+        (context_of R.context context.now) (reference nullable) type_index ≡ None) }
 {
     let heap_type = HeapType::Concrete(UnpackedIndex::Module(type_index));
-    heap_reference(body.resources, nullable, heap_type)
+    heap_reference(context.resources, nullable, heap_type)
 }
 
 /// A type of the module, exact or not.
@@ -188,18 +188,18 @@ pub fn declared_heap(exact: bool, index: UnpackedIndex) -> HeapType
 /// can be (wasmparser's `push_exact_ref_if_available`).
 #[inline(always)]
 pub fn allocated_reference<A: Refused, R: WasmModuleResources>(
-    body: &Body<'_, '_, R>,
+    context: &OperatorContext<'_, '_, R>,
     type_index: u32,
 ) -> Result<ValType, A>
-    ensures found { IfOk result (λ t. exact_rule.allocated_reference (context_of R.context body.now)
+    ensures found { IfOk result (λ t. exact_rule.allocated_reference (context_of R.context context.now)
         type_index ≡ Some t) }
-    ensures valid { IfOk result (λ t. Valid (R.context body.now.resources.now) t) }
+    ensures valid { IfOk result (λ t. Valid (R.context context.now.resources.now) t) }
     ensures refused { IfErr result (λ e. A.tells e → exact_rule.allocated_reference
-        (context_of R.context body.now) type_index ≡ None) }
+        (context_of R.context context.now) type_index ≡ None) }
 {
-    let exact = body.stacks.features().custom_descriptors();
+    let exact = context.stacks.features().custom_descriptors();
     let heap_type = declared_heap(exact, UnpackedIndex::Module(type_index));
-    heap_reference(body.resources, false, heap_type)
+    heap_reference(context.resources, false, heap_type)
 }
 
 /// The type of the descriptors of the type at this index, if it has one. The type has to be declared.

@@ -7,12 +7,12 @@ ghost use Rattle.validation_rules.specs.Rows.{Operator};
 ghost use Rattle.validate_stacks.specs.Attempts.{Stacked};
 
 use validate_resources::WasmModuleResources;
-use validate_stacks::Body;
+use validate_stacks::OperatorContext;
 use validate_types::{Error, Told};
 
 /// What a look-up answers, with the text and the place of a refusal.
 pub fn placed<R: WasmModuleResources, T>(
-    body: &Body<'_, '_, R>,
+    context: &OperatorContext<'_, '_, R>,
     offset: u64,
     answer: Result<T, Told>,
 ) -> Result<T, Error>
@@ -23,6 +23,6 @@ pub fn placed<R: WasmModuleResources, T>(
 {
     match answer {
         Ok(found) => Ok(found),
-        Err(told) => Err(body.stacks.refusal(body.resources, told, offset)),
+        Err(told) => Err(context.stacks.refusal(context.resources, told, offset)),
     }
 }

@@ -7,24 +7,24 @@ ghost use Rattle.validate_stacks.specs.Bodies.{context_of};
 
 use validate_resources::WasmModuleResources;
 use validate_resources::uses::laws;
-use validate_stacks::Body;
+use validate_stacks::OperatorContext;
 use validate_types::{GlobalType, Refusal, Refused};
 
 /// The type of a global. It refuses one that isn't declared, and in a shared function one that isn't shared.
 #[inline(always)]
 pub fn find_global<A: Refused, R: WasmModuleResources>(
-    body: &Body<'_, '_, R>,
+    context: &OperatorContext<'_, '_, R>,
     global_index: u32,
 ) -> Result<GlobalType, A>
-    ensures found { IfOk result (λ g. global_type (context_of R.context body.now) global_index ≡ Some g) }
-    ensures valid { IfOk result (λ g. Valid (R.context body.now.resources.now) g.content_type) }
-    ensures refused { OnErr result (global_type (context_of R.context body.now) global_index ≡ None) }
+    ensures found { IfOk result (λ g. global_type (context_of R.context context.now) global_index ≡ Some g) }
+    ensures valid { IfOk result (λ g. Valid (R.context context.now.resources.now) g.content_type) }
+    ensures refused { OnErr result (global_type (context_of R.context context.now) global_index ≡ None) }
 {
-    laws(body.resources);
-    let Some(global) = body.resources.global_at(global_index) else {
+    laws(context.resources);
+    let Some(global) = context.resources.global_at(global_index) else {
         return Err(A::of(Refusal::UnknownGlobal));
     };
-    if body.stacks.is_shared() && !global.shared {
+    if context.stacks.is_shared() && !global.shared {
         return Err(A::of(Refusal::UnsharedGlobal));
     }
     Ok(global)

@@ -9,26 +9,26 @@ ghost use Rattle.validate_stacks.specs.Bodies.{context_of};
 
 use validate_resources::WasmModuleResources;
 use validate_resources::uses::laws;
-use validate_stacks::Body;
+use validate_stacks::OperatorContext;
 use validate_types::{RefType, Refusal, Refused, TableType, ValType};
 
 /// The type of a table (wasmparser's `table_type_at`). It refuses one that isn't declared, and in a shared function one that
 /// isn't shared.
 pub fn table_type_at<A: Refused, R: WasmModuleResources>(
-    body: &Body<'_, '_, R>,
+    context: &OperatorContext<'_, '_, R>,
     table: u32,
 ) -> Result<TableType, A>
-    ensures found { IfOk result (λ t. table_type (context_of R.context body.now) table ≡ Some t) }
-    ensures element { IfOk result (λ t. Valid (R.context body.now.resources.now)
+    ensures found { IfOk result (λ t. table_type (context_of R.context context.now) table ≡ Some t) }
+    ensures element { IfOk result (λ t. Valid (R.context context.now.resources.now)
         (ValType.Ref t.element_type)) }
     ensures index { IfOk result (λ t. is_address_type (address_type_of_table t) ≡ true) }
-    ensures refused { OnErr result (table_type (context_of R.context body.now) table ≡ None) }
+    ensures refused { OnErr result (table_type (context_of R.context context.now) table ≡ None) }
 {
-    laws(body.resources);
-    let Some(ty) = body.resources.table_at(table) else {
+    laws(context.resources);
+    let Some(ty) = context.resources.table_at(table) else {
         return Err(A::of(Refusal::UnknownTable(table)));
     };
-    if body.stacks.is_shared() && !ty.shared {
+    if context.stacks.is_shared() && !ty.shared {
         return Err(A::of(Refusal::UnsharedTable));
     }
     Ok(ty)

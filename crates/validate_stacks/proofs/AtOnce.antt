@@ -17,7 +17,7 @@ use Rattle.validation_rules.specs.Rows.{guard, Operator}
 use Rattle.validate_stacks.specs.Attempts.{Stacked}
 use Rattle.validation_rules.specs.Static.{Frame, stack_with, operands_found, opened_frame, locals_set}
 use Rattle.validate_stacks.specs.AtOnce.{frames_dropped, body_dropped, body_with_frame_over, body_given}
-use Rattle.validate_stacks.specs.AtOnce.{pushed_list, MeetsAtOnce}
+use Rattle.validate_stacks.specs.AtOnce.{pushed_list, MeetsOrUnchanged}
 use Rattle.validate_stacks.specs.Pops.{FitsAtOnce, may_pop, body_popped_each, body_pushed_each}
 use Rattle.validate_stacks.specs.Pops.{has_operands_fitting, operands_found_in, IsKept}
 use Rattle.validate_stacks.specs.State.{BodyState, body_context, body_with_frames, IsValidBody}
@@ -327,16 +327,16 @@ module _ (md : ModuleContext) where
 
 -- it is done
 pub done_at_once :
-    (md : ModuleContext) (op : Context → Operator) (v w : Stacked) (b : Bool) → MeetsAtOnce md op v b w →
+    (md : ModuleContext) (op : Context → Operator) (v w : Stacked) (b : Bool) → MeetsOrUnchanged md op v b w →
     b ≡ true → (offset : ℕ) → Meets md op offset v.body (Ok tt) w.body
-unfolding MeetsAtOnce
+unfolding MeetsOrUnchanged
 done_at_once md op v w true m h offset = m offset
 done_at_once md op v w false m h offset = cc
 
 pub same_at_once :
-    (md : ModuleContext) (op : Context → Operator) (v w : Stacked) (b : Bool) → MeetsAtOnce md op v b w →
+    (md : ModuleContext) (op : Context → Operator) (v w : Stacked) (b : Bool) → MeetsOrUnchanged md op v b w →
     b ≡ false → w ≡ v
-unfolding MeetsAtOnce
+unfolding MeetsOrUnchanged
 same_at_once md op v w true m h = cc
 same_at_once md op v w false m h = m
 

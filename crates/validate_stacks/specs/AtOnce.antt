@@ -44,5 +44,5 @@ pushed_list None = []
 pushed_list (Some t) = t ∷ []
 
 -- A visit that is made at once or not at all: it is accepted, whatever the offset, or nothing is changed.
-unfoldable pub MeetsAtOnce : ModuleContext → (Context → Operator) → Stacked → Bool → Stacked → Type 0
-MeetsAtOnce md op v answer w = MatchBool answer ((offset : ℕ) → Meets md op offset v.body (Ok tt) w.body) (w ≡ v)
+unfoldable pub MeetsOrUnchanged : ModuleContext → (Context → Operator) → Stacked → Bool → Stacked → Type 0
+MeetsOrUnchanged md op v answer w = MatchBool answer ((offset : ℕ) → Meets md op offset v.body (Ok tt) w.body) (w ≡ v)

@@ -8,18 +8,18 @@ use Rattle.validate_stacks.specs.Attempts.{Stacked}
 use Rattle.validate_stacks.specs.Moves.{Moves}
 use Rattle.validate_stacks.specs.State.{body_context}
 use Rattle.validate_stacks.specs.Visits.{MayVisit}
-use Rattle.validate_stacks.specs.declared.body.Body.{Body}
+use Rattle.validate_stacks.specs.declared.context.OperatorContext.{OperatorContext}
 
 -- what rows look at: the module, the features, the locals
-abbrev pub context_of : {R : Type 0} → (R → ModuleContext) → Body R → Context
+abbrev pub context_of : {R : Type 0} → (R → ModuleContext) → OperatorContext R → Context
 context_of context b = body_context (context b.resources.now) b.stacks.now.body
 
 -- a visit may be made
-abbrev pub MayBegin : {R : Type 0} → (R → ModuleContext) → Body R → Type 0
-MayBegin context b = MayVisit (context b.resources.now) b.stacks.now
+abbrev pub CanCheck : {R : Type 0} → (R → ModuleContext) → OperatorContext R → Type 0
+CanCheck context b = MayVisit (context b.resources.now) b.stacks.now
 
 -- the row's step is made in its stacks, or nothing is changed; `left` is what its references leave
-abbrev pub Makes :
-    {E R X : Type 0} → (R → ModuleContext) → (E → Type 0) → (Context → Operator) → Body R →
+abbrev pub Checks :
+    {E R X : Type 0} → (R → ModuleContext) → (E → Type 0) → (Context → Operator) → OperatorContext R →
     Result (Unit {0}) E → MutBor Stacked × X → Type 0
-Makes context tells op b answer left = Moves (context b.resources.now) tells op b.stacks.now answer left.0.now
+Checks context tells op b answer left = Moves (context b.resources.now) tells op b.stacks.now answer left.0.now

@@ -22,7 +22,7 @@ use validate_types::{LocalType, MaybeType, Operand, ValType};
 use validate_visit::{BlockType, FrameKind};
 
 impl Stacks {
-    /// The fast lane of [`Body::exchange_types`] for number and vector types alone, of which some are
+    /// The fast lane of [`OperatorContext::exchange_types`] for number and vector types alone, of which some are
     /// expected, where no attempt is pending. The innermost frame has as many own operands, known to be of
     /// these very types, or is dead and has none. False, with nothing changed, where that isn't so. In live
     /// code it makes no call, so it is short where it is inlined.
@@ -67,7 +67,7 @@ impl Stacks {
         true
     }
 
-    /// The fast lane of [`Body::exchange_types`] for types that are known, of which some are expected, where
+    /// The fast lane of [`OperatorContext::exchange_types`] for types that are known, of which some are expected, where
     /// no attempt is pending. The innermost frame has as many own operands, known to be of these types, be it
     /// that a reference is exact in its type or without null. False, with nothing changed, where that isn't
     /// so. It makes no call.
@@ -106,7 +106,7 @@ impl Stacks {
         true
     }
 
-    /// The fast lane of [`Body::exchange_types`] from the type of a local to itself: whether the operand that is
+    /// The fast lane of [`OperatorContext::exchange_types`] from the type of a local to itself: whether the operand that is
     /// found is an own one of the innermost frame, and known to be of this number or vector type, while no
     /// attempt is pending. Then a pop and a push of the type leave what there is.
     #[inline(always)]
@@ -138,7 +138,7 @@ impl Stacks {
         }
     }
 
-    /// The fast lane of [`Body::exchange_types`] from the type of a local to nothing: takes the operand that is
+    /// The fast lane of [`OperatorContext::exchange_types`] from the type of a local to nothing: takes the operand that is
     /// found, where [`Stacks::has_local_at_once`] is so. False, with nothing changed, where it isn't.
     #[inline(always)]
     pub fn pop_local_at_once<R: WasmModuleResources>(
@@ -163,7 +163,7 @@ impl Stacks {
         true
     }
 
-    /// The fast lane of [`Body::exchange_types`] in dead code: pushes an operand of this type, where the
+    /// The fast lane of [`OperatorContext::exchange_types`] in dead code: pushes an operand of this type, where the
     /// innermost frame is dead, has no own operands, and there is room. Whatever is expected is found there.
     /// False, with nothing changed, where that isn't so.
     #[inline(never)]
@@ -174,10 +174,10 @@ impl Stacks {
         ensures dead { result ≡ true → found_in_body self.old.body ≡ Some Bottom }
         ensures phase { phase_moved self.new.phase ≡ phase_moved self.old.phase }
     {
-        if self.own_len() > 0 {
+        if self.own_operand_count() > 0 {
             return false;
         }
-        match self.found_at(0) {
+        match self.type_found(0) {
             Some(MaybeType::Bottom) => self.push_at_once(Operand::known(ty)),
             _ => false,
         }
@@ -203,7 +203,7 @@ impl Stacks {
         true
     }
 
-    /// The fast lane of [`Body::find_operands`] and then [`Stacks::open`]: takes the parameters of a block
+    /// The fast lane of [`OperatorContext::expect_operands`] and then [`Stacks::open`]: takes the parameters of a block
     /// type, and opens a frame over them. No attempt is pending, there is room, and the innermost frame has
     /// own operands that are known to be of these number or vector types. False, with nothing changed, where
     /// that isn't so. It takes no memory.

@@ -229,7 +229,7 @@ fn put_top(operands: &mut Pile<Operand>, top: Option<MaybeType>)
 }
 
 impl Stacks {
-    /// Makes a change whole, or not at all: room for all of it, in the stacks and in the log of an attempt, is taken before
+    /// Checks a change whole, or not at all: room for all of it, in the stacks and in the log of an attempt, is taken before
     /// the first move. Memory is asked for where `A` may grow alone.
     #[inline(always)]
     pub(crate) fn change<A: Refused>(&mut self, change: Change<'_>) -> Result<(), A>

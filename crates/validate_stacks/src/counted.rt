@@ -2,14 +2,14 @@
 
 ghost use Rattle.std.specs.Prelude.{◌≡◌, ◌+◌, ◌^◌, ◌<◌, ◌≤◌, [], true, false, None, Some, length, replicate, OnOk, OnErr};
 ghost use Rattle.validate_resources.specs.Context.{Valid};
-ghost use Rattle.validate_stacks.specs.Bodies.{MayBegin};
+ghost use Rattle.validate_stacks.specs.Bodies.{CanCheck};
 ghost use Rattle.validate_stacks.specs.Counted.{pops_of_run};
 ghost use Rattle.validate_stacks.specs.Moves.{Exchanges};
 ghost use Rattle.validate_stacks.specs.Pops.{body_popped_each, has_operands_fitting, may_pop};
 ghost use Rattle.validate_stacks.specs.State.{IsValidBody, body_context};
 ghost use Rattle.validate_stacks.specs.Steps.{innermost_operands, found_after_pops_in_body};
 
-use crate::body::Body;
+use crate::context::OperatorContext;
 use crate::stacks::Stacks;
 use std::marker::Model;
 use validate_resources::WasmModuleResources;
@@ -54,10 +54,10 @@ impl Pops {
     }
 }
 
-impl<R: WasmModuleResources> Body<'_, '_, R> {
+impl<R: WasmModuleResources> OperatorContext<'_, '_, R> {
     /// Pops `n` operands of this type, one by one, and pushes one of each of the other types, the last on top. `pops`
     /// counts each pop that it tries, also one that finds nothing that fits, which is the last. It refuses as
-    /// [`Body::exchange_types`] does. It takes the time of the innermost frame's own operands at most: below those of a
+    /// [`OperatorContext::exchange_types`] does. It takes the time of the innermost frame's own operands at most: below those of a
     /// dead frame one pop passes as any number of them would, and is the last.
     #[inline(always)]
     pub fn pop_run<A: Refused>(
@@ -67,7 +67,7 @@ impl<R: WasmModuleResources> Body<'_, '_, R> {
         pushed: &[ValType],
         pops: &mut Pops,
     ) -> Result<(), A>
-        requires visit { MayBegin R.context self }
+        requires visit { CanCheck R.context self }
         requires element { Valid (R.context self.resources.now) elem }
         requires countable { pops.old + n < 2 ^ 64 }
         ensures exchanged { Exchanges (R.context self.entry.resources.now) A.tells (replicate n elem)
@@ -79,19 +79,19 @@ impl<R: WasmModuleResources> Body<'_, '_, R> {
             (body_popped_each (R.context self.entry.resources.now) (replicate n elem)
             self.entry.stacks.now.body ≡ None) }
     {
-        let Body { stacks, resources } = self;
-        let own = stacks.own_len();
-        stacks.find_run(resources, own, elem, n as usize, pops)?;
+        let OperatorContext { stacks, resources } = self;
+        let own = stacks.own_operand_count();
+        stacks.expect_run(resources, own, elem, n as usize, pops)?;
         stacks.exchange((n as usize).min(own), pushed)
     }
 }
 
 impl Stacks {
-    /// [`Body::find_operands`] of so many operands of one type, where the innermost frame has so many own operands. Each
+    /// [`OperatorContext::expect_operands`] of so many operands of one type, where the innermost frame has so many own operands. Each
     /// is looked for as a pop would find it, from the top, and counted. Below the own operands each pop finds the same,
     /// so one is tried there.
     #[inline(always)]
-    fn find_run<A: Refused, R: WasmModuleResources>(
+    fn expect_run<A: Refused, R: WasmModuleResources>(
         &self,
         resources: &R,
         own: usize,
@@ -112,11 +112,11 @@ impl Stacks {
         ensures bounded { pops.new ≤ pops.old + pops_of_run count self.now.body }
         ensures tried { OnErr result (pops.old < pops.new) }
     {
-        self.find_own_run(resources, elem, count.min(own), pops)?;
+        self.expect_own_run(resources, elem, count.min(own), pops)?;
         if own < count {
             pops.tick();
             if !self.is_fitting_at(resources, own, own, &elem) {
-                return Err(self.misfit(resources, own, &elem));
+                return Err(self.mismatch(resources, own, &elem));
             }
         }
         Ok(())
@@ -124,7 +124,7 @@ impl Stacks {
 
     /// The same of so many own operands of the innermost frame.
     #[inline(always)]
-    fn find_own_run<A: Refused, R: WasmModuleResources>(
+    fn expect_own_run<A: Refused, R: WasmModuleResources>(
         &self,
         resources: &R,
         elem: ValType,
@@ -153,7 +153,7 @@ impl Stacks {
             if !operands[left].is_number(elem)
                 && !self.is_element_fitting(resources, depth, &elem)
             {
-                return Err(self.misfit(resources, depth, &elem));
+                return Err(self.mismatch(resources, depth, &elem));
             }
         }
         Ok(())

@@ -14,19 +14,19 @@ ghost use Rattle.validate_stacks.specs.Pops.{has_operands_fitting};
 ghost use Rattle.validate_stacks.specs.State.{IsValidBody, body_context};
 ghost use Rattle.validate_stacks.specs.Steps.{body_without_frame, found_after_pops_in_body, frame_at, innermost_operands, label_at};
 
-use crate::body::Body;
+use crate::context::OperatorContext;
 use crate::pops::unknown_reference;
 use crate::stacks::Stacks;
 use validate_resources::WasmModuleResources;
 use validate_types::{FieldType, LocalType, MaybeType, Refusal, Refused, ValType};
 use validate_visit::{BlockType, FrameKind};
 
-impl<R: WasmModuleResources> Body<'_, '_, R> {
-    /// The fast lane of [`Stacks::find_by_call`]: numbers and vectors are found without a call. That pops of
+impl<R: WasmModuleResources> OperatorContext<'_, '_, R> {
+    /// The fast lane of [`Stacks::expect_by_call`]: numbers and vectors are found without a call. That pops of
     /// these types would pass, the last of the list first, after one other pop or none. It refuses where an
     /// operand isn't found, or doesn't fit.
     #[inline(always)]
-    pub fn find_operands<A: Refused>(&self, above: usize, expected: &[ValType]) -> Result<(), A>
+    pub fn expect_operands<A: Refused>(&self, above: usize, expected: &[ValType]) -> Result<(), A>
         requires above { above ≤ 1 }
         requires types { AllByRecursion (Valid (R.context self.now.resources.now)) expected.now }
         requires state { IsValidBody (R.context self.now.resources.now) self.now.stacks.now.body }
@@ -38,11 +38,11 @@ impl<R: WasmModuleResources> Body<'_, '_, R> {
         if self.stacks.has_numbers(self.resources, above, expected) {
             return Ok(());
         }
-        self.stacks.find_by_call(self.resources, above, expected)
+        self.stacks.expect_by_call(self.resources, above, expected)
     }
 
-    /// [`Body::find_operands`] of the types of a list, and of one more on top of them.
-    pub fn find_under<A: Refused>(
+    /// [`OperatorContext::expect_operands`] of the types of a list, and of one more on top of them.
+    pub fn expect_with_top<A: Refused>(
         &self,
         above: usize,
         under: &[ValType],
@@ -57,10 +57,11 @@ impl<R: WasmModuleResources> Body<'_, '_, R> {
         ensures unfit { OnErr result (has_operands_fitting (context_of R.context self.now)
             (under.now ++ top ∷ []) (body_dropped above self.now.stacks.now.body) ≡ false) }
     {
-        let own = self.stacks.own_len();
-        self.stacks.find_among(self.resources, own, above, &[top])?;
+        let own = self.stacks.own_operand_count();
         self.stacks
-            .find_among(self.resources, own, above + 1, under)
+            .expect_among(self.resources, own, above, &[top])?;
+        self.stacks
+            .expect_among(self.resources, own, above + 1, under)
     }
 
     /// How many own operands the innermost frame has, where they are its results: pops of these types would pass, and leave
@@ -77,16 +78,16 @@ impl<R: WasmModuleResources> Body<'_, '_, R> {
         ensures stays { OnErr result (closed_body (R.context self.now.resources.now)
             self.now.stacks.now.body ≡ None) }
     {
-        let own = self.stacks.own_len();
-        self.stacks.find_among(self.resources, own, 0, results)?;
+        let own = self.stacks.own_operand_count();
+        self.stacks.expect_among(self.resources, own, 0, results)?;
         if own > results.len() {
             return Err(A::of(Refusal::OperandsLeft));
         }
         Ok(own)
     }
 
-    /// [`Body::find_operands`] of the values of these fields, the last on top.
-    pub fn find_fields<A: Refused>(&self, above: usize, fields: &[FieldType]) -> Result<(), A>
+    /// [`OperatorContext::expect_operands`] of the values of these fields, the last on top.
+    pub fn expect_fields<A: Refused>(&self, above: usize, fields: &[FieldType]) -> Result<(), A>
         requires above { above ≤ 1 }
         requires types { AllByRecursion (Valid (R.context self.now.resources.now))
             (unpacked_fields fields.now) }
@@ -96,7 +97,7 @@ impl<R: WasmModuleResources> Body<'_, '_, R> {
         ensures unfit { OnErr result (has_operands_fitting (context_of R.context self.now)
             (unpacked_fields fields.now) (body_dropped above self.now.stacks.now.body) ≡ false) }
     {
-        let own = self.stacks.own_len();
+        let own = self.stacks.own_operand_count();
         let mut left = fields.len();
         while left > 0 {
             left -= 1;
@@ -106,7 +107,7 @@ impl<R: WasmModuleResources> Body<'_, '_, R> {
                 .stacks
                 .is_fitting_at(self.resources, own, depth, &expected)
             {
-                return Err(self.stacks.misfit(self.resources, depth, &expected));
+                return Err(self.stacks.mismatch(self.resources, depth, &expected));
             }
         }
         Ok(())
@@ -114,9 +115,9 @@ impl<R: WasmModuleResources> Body<'_, '_, R> {
 }
 
 impl Stacks {
-    /// [`Body::find_operands`] of any types.
+    /// [`OperatorContext::expect_operands`] of any types.
     #[inline(never)]
-    fn find_by_call<A: Refused, R: WasmModuleResources>(
+    fn expect_by_call<A: Refused, R: WasmModuleResources>(
         &self,
         resources: &R,
         above: usize,
@@ -131,10 +132,10 @@ impl Stacks {
             (body_context (R.context resources.now) self.now.body) expected.now
             (body_dropped above self.now.body) ≡ false) }
     {
-        self.find_among(resources, self.own_len(), above, expected)
+        self.expect_among(resources, self.own_operand_count(), above, expected)
     }
 
-    /// The fast lane of [`Stacks::find_among`]: whether pops of these types would pass after so many others,
+    /// The fast lane of [`Stacks::expect_among`]: whether pops of these types would pass after so many others,
     /// since each finds an operand that isn't known at all, or is known to be of the expected number or
     /// vector type.
     #[inline(always)]
@@ -149,7 +150,7 @@ impl Stacks {
         ensures { result ≡ true → has_operands_fitting (body_context (R.context resources.now) self.now.body)
             expected.now (body_dropped above self.now.body) ≡ true }
     {
-        let own = self.own_len();
+        let own = self.own_operand_count();
         let mut left = expected.len();
         while left > 0 {
             left -= 1;
@@ -161,9 +162,9 @@ impl Stacks {
         true
     }
 
-    /// [`Body::find_operands`], where the innermost frame has so many own operands.
+    /// [`OperatorContext::expect_operands`], where the innermost frame has so many own operands.
     #[inline(always)]
-    pub(crate) fn find_among<A: Refused, R: WasmModuleResources>(
+    pub(crate) fn expect_among<A: Refused, R: WasmModuleResources>(
         &self,
         resources: &R,
         own: usize,
@@ -185,7 +186,7 @@ impl Stacks {
             left -= 1;
             let depth = expected.len() - 1 - left + above;
             if !self.is_fitting_at(resources, own, depth, &expected[left]) {
-                return Err(self.misfit(resources, depth, &expected[left]));
+                return Err(self.mismatch(resources, depth, &expected[left]));
             }
         }
         Ok(())
@@ -195,7 +196,7 @@ impl Stacks {
     /// lies where it isn't called.
     #[cold]
     #[inline(never)]
-    pub(crate) fn misfit<A: Refused, R: WasmModuleResources>(
+    pub(crate) fn mismatch<A: Refused, R: WasmModuleResources>(
         &self,
         resources: &R,
         depth: usize,
@@ -204,7 +205,7 @@ impl Stacks {
         requires { Valid (R.context resources.now) expected.now }
     {
         let expected = *expected;
-        A::of(match (self.found_at(depth), expected) {
+        A::of(match (self.type_found(depth), expected) {
             (None, _) => Refusal::NothingFound(Some(expected)),
             (Some(MaybeType::UnknownRef(Some(ty))), ValType::Ref(reference)) => {
                 Refusal::Mismatch {
@@ -268,7 +269,7 @@ impl Stacks {
 
     /// That a declared local is set. It refuses one that isn't.
     #[inline(always)]
-    pub fn find_set<A: Refused>(&self, local_index: u32) -> Result<(), A>
+    pub fn expect_set<A: Refused>(&self, local_index: u32) -> Result<(), A>
         requires { local_index < length self.now.body.locals }
         ensures set { OnOk result (is_local_set self.now.body.set_at_entry
             (locals_set self.now.body.present.frames) local_index ≡ true) }

@@ -5,8 +5,8 @@
 mod allocations;
 mod at_once;
 pub mod blocks;
-mod body;
 mod change;
+mod context;
 mod control;
 mod counted;
 mod either;
@@ -20,8 +20,8 @@ mod refusals;
 mod stacks;
 
 pub use crate::allocations::OperatorValidatorAllocations;
-pub use crate::body::Body;
 pub use crate::change::Change;
+pub use crate::context::OperatorContext;
 pub use crate::counted::Pops;
 pub use crate::either::Either;
 pub use crate::laws::shape_law;

@@ -16,7 +16,7 @@ use validate_resources::WasmModuleResources;
 use validate_types::ValType;
 
 impl Stacks {
-    /// The fast lane of [`Body::exchange_types`] asks this: whether the top own operands of the innermost
+    /// The fast lane of [`OperatorContext::exchange_types`] asks this: whether the top own operands of the innermost
     /// frame, which has so many at least, are known to be of these number or vector types, the last of the
     /// list on top. Nothing else is asked, so that no call is made.
     #[inline(always)]
@@ -48,7 +48,7 @@ impl Stacks {
         true
     }
 
-    /// The fast lane of [`Stacks::find_among`] for own operands: whether the top ones of the innermost frame,
+    /// The fast lane of [`Stacks::expect_among`] for own operands: whether the top ones of the innermost frame,
     /// which has so many at least, are known to be of these types, be it that a reference is exact in its
     /// type or without null; the last of the list on top. No call is made.
     #[inline(always)]
@@ -94,7 +94,7 @@ impl Stacks {
         }
     }
 
-    /// The fast lane of [`Body::exchange_types`] asks this of each operand: whether the own one of the
+    /// The fast lane of [`OperatorContext::exchange_types`] asks this of each operand: whether the own one of the
     /// innermost frame at this depth is known to be of this number or vector type.
     #[inline(always)]
     fn is_same_number_at(&self, depth: usize, expected: ValType) -> bool
@@ -168,6 +168,6 @@ impl Stacks {
         ensures { result ≡ may_pop (body_context (R.context resources.now) self.now.body)
             (found_after_pops_in_body depth self.now.body) (Some expected.now) }
     {
-        self.is_fitting(resources, self.found_at(depth), *expected)
+        self.is_fitting(resources, self.type_found(depth), *expected)
     }
 }

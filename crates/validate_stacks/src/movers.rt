@@ -341,13 +341,13 @@ impl Stacks {
     /// Ends the live part of the innermost frame: it is dead from here on, and its own operands go. Want of memory changes
     /// nothing, and there is none where no attempt is pending.
     #[inline(always)]
-    pub fn end_live<A: Refused>(&mut self) -> Result<(), A>
+    pub fn mark_unreachable<A: Refused>(&mut self) -> Result<(), A>
         ensures exact { MatchResult result (λ _. self.new.body ≡ body_unreachable self.old.body)
             (λ _. self.new ≡ self.old) }
         ensures told { IfErr result (λ e. A.tells e → ⊥) }
         ensures idle { self.old.body.undone ≡ None → IsOk result }
     {
-        self.exchange(self.own_len(), &[])?;
+        self.exchange(self.own_operand_count(), &[])?;
         self.mark();
         Ok(())
     }

@@ -62,7 +62,7 @@ impl Stacks {
     fn count_popped(&self, told: &Told, popped: usize) -> usize
         ensures { result ≤ length (innermost_operands self.now.body.present.frames) }
     {
-        let own = self.own_len();
+        let own = self.own_operand_count();
         match told {
             Told::Rule(Refusal::NothingFound(_)) => own,
             Told::Rule(Refusal::Mismatch { depth, .. }) => own.min(depth.saturating_add(1)),

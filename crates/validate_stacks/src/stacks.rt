@@ -407,7 +407,7 @@ impl Stacks {
 
     /// What a pop would find below so many others, in the innermost frame.
     #[inline(always)]
-    pub fn found_at(&self, depth: usize) -> Option<MaybeType>
+    pub fn type_found(&self, depth: usize) -> Option<MaybeType>
         ensures { result ≡ found_after_pops_in_body depth self.now.body }
     {
         let operand = self.operand_found(depth)?;
@@ -484,7 +484,7 @@ impl Stacks {
         self.control.replace_top(dead);
     }
 
-    /// The fast lane of [`Stacks::own_len`] against a count: whether the innermost frame has so many own
+    /// The fast lane of [`Stacks::own_operand_count`] against a count: whether the innermost frame has so many own
     /// operands at least.
     #[inline(always)]
     pub(crate) fn has_own(&self, count: usize) -> bool
@@ -499,7 +499,7 @@ impl Stacks {
 
     /// How many own operands the innermost frame has.
     #[inline(always)]
-    pub fn own_len(&self) -> usize
+    pub fn own_operand_count(&self) -> usize
         ensures { result ≡ length (innermost_operands self.now.body.present.frames) }
     {
         let height = self.control.innermost_height();

@@ -3,7 +3,7 @@
 
 ghost use Rattle.std.specs.Prelude.{◌≡◌, None};
 ghost use Rattle.validation_rules.specs.Operators.{operator};
-ghost use Rattle.validate_stacks.specs.AtOnce.{MeetsAtOnce};
+ghost use Rattle.validate_stacks.specs.AtOnce.{MeetsOrUnchanged};
 ghost use Rattle.validate_stacks.specs.Pops.{IsKept};
 ghost use Rattle.validate_stacks.specs.State.{IsValidBody};
 ghost use Rattle.validate_stacks.specs.Visits.{MayVisit, Meets};
@@ -99,7 +99,7 @@ fn check_by_group<'a, C: OperatorChecks<'a>>(checks: &mut C, op: Op<'a>) -> C::O
 /// Whether an operator passes at once, by the call of its own where its group has one.
 fn passes_at_once<R: WasmModuleResources>(v: &mut OperatorValidator, lists: &R, op: &Op<'_>) -> bool
     requires { MayVisit (R.context lists.now) (stacks_of v.old) }
-    ensures { MeetsAtOnce (R.context lists.now) (λ cx. operator cx op.now) (stacks_of v.old) result
+    ensures { MeetsOrUnchanged (R.context lists.now) (λ cx. operator cx op.now) (stacks_of v.old) result
         (stacks_of v.new) }
 {
     match op {

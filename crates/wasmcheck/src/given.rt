@@ -1,7 +1,7 @@
 //! How many operands an operator gives: what lies on top behind it, it has pushed.
 
-use validate_resources::{ModuleLists, WasmModuleResources};
 use validate_resources::kinds::func_type_of;
+use validate_resources::{ModuleLists, WasmModuleResources};
 use validate_visit::{
     ArrayOp, AtomicOp, ContinuationOp, ControlOp, ExceptionOp, Exchange, FieldAccess, MemoryOp,
     NumericOp, Op, ReferenceOp, SharedOp, StructOp, TableOp, Update,

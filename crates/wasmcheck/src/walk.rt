@@ -50,7 +50,7 @@ impl From<ReadError> for Stop {
 
 impl From<Error> for Stop {
     fn from(error: Error) -> Stop {
-        Stop::of_verdict(Verdict::of_refusal(error))
+        Stop::of_verdict(Verdict::of_error(error))
     }
 }
 

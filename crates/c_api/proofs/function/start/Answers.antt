@@ -17,4 +17,4 @@ returns-in-Ok-clause-made c =
 pub returns-in-Err-clause-cannot : goal.returns-in-Err-clause-cannot
 returns-in-Err-clause-cannot c = λ memory.
     cannot_start c.args.held.now (context_of (declared_lists c.resources.result.now)) c.resources.ensures c.features-features.result c.features-features.ensures
-    c.args.kind (c.in-Err.ensures.refused (c.of_refusal.ensures.memory memory))
+    c.args.kind (c.in-Err.ensures.refused (c.of_error.ensures.memory memory))

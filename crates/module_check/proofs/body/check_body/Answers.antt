@@ -24,7 +24,7 @@ returns-in-Ok-clause-refused g c = λ refused memory.
 pub returns-in-Err-clause-refused : goal.returns-in-Err-clause-refused
 returns-in-Err-clause-refused g c = λ refused memory.
     not_started (g.R.WasmModuleResources.context c.args.context.now.resources.now) c.args.context.now.features.now c.args.context.now.types (may_stand c.args.context.now.constant) (state c.start_body.new.self) c.args.reader.now.left c.args.kind
-    (c.in-Err.ensures.refused (c.of_refusal.ensures.memory memory))
+    (c.in-Err.ensures.refused (c.of_error.ensures.memory memory))
 
 pub returns-in-Ok-clause-uncovered : goal.returns-in-Ok-clause-uncovered
 returns-in-Ok-clause-uncovered g c = λ offset uncovered.
@@ -42,7 +42,7 @@ returns-in-Ok-clause-malformed g c = λ error malformed.
     (λ e is f. record { error = e; is_malformed = is; has_fault = f (malformed_is_refusal e is) c.args.context.now.features.now c.in-Ok.ensures.made })
 
 pub returns-in-Err-clause-malformed : goal.returns-in-Err-clause-malformed
-returns-in-Err-clause-malformed g c = λ error malformed. absurd (c.of_refusal.ensures.malformed error malformed)
+returns-in-Err-clause-malformed g c = λ error malformed. absurd (c.of_error.ensures.malformed error malformed)
 
 pub returns-in-Ok-clause-invalid : goal.returns-in-Ok-clause-invalid
 returns-in-Ok-clause-invalid g c = λ error refused.
@@ -60,4 +60,4 @@ returns-in-Ok-clause-invalid g c = λ error refused.
     }))
 
 pub returns-in-Err-clause-invalid : goal.returns-in-Err-clause-invalid
-returns-in-Err-clause-invalid g c = λ error refused. inl (c.in-Err.ensures.refused (c.of_refusal.ensures.refused error refused))
+returns-in-Err-clause-invalid g c = λ error refused. inl (c.in-Err.ensures.refused (c.of_error.ensures.refused error refused))

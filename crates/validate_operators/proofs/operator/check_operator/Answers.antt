@@ -14,22 +14,22 @@ pub returns-in-Ok-clause-row : goal.returns-in-Ok-clause-row
 returns-in-Ok-clause-row g c =
     let md = g.R.WasmModuleResources.context c.args.resources.now in
     let op : Context → Operator = λ cx. operator cx c.args.op.now in
-    moves_accepted md IsRowRefused op c.args.stacks.now c.operator_by_call-answer.new.body.0 c.args.offset tt
-    (subst (λ a. Moves md IsRowRefused op c.args.stacks.now a c.operator_by_call-answer.new.body.0) c.in-Ok.is c.operator_by_call-answer.ensures.row)
+    moves_accepted md IsRowRefused op c.args.stacks.now c.operator_by_call-answer.new.context.0 c.args.offset tt
+    (subst (λ a. Moves md IsRowRefused op c.args.stacks.now a c.operator_by_call-answer.new.context.0) c.in-Ok.is c.operator_by_call-answer.ensures.row)
 
 pub refuse-requires : goal.refuse-requires
 refuse-requires g c =
     let md = g.R.WasmModuleResources.context c.args.resources.now in
     let op : Context → Operator = λ cx. operator cx c.args.op.now in
-    let same = not_moved md IsRowRefused op c.args.stacks.now c.operator_by_call-answer.new.body.0 c.in-Err.told (subst (λ a. Moves md IsRowRefused op c.args.stacks.now a c.operator_by_call-answer.new.body.0) c.in-Err.is c.operator_by_call-answer.ensures.row) in
+    let same = not_moved md IsRowRefused op c.args.stacks.now c.operator_by_call-answer.new.context.0 c.in-Err.told (subst (λ a. Moves md IsRowRefused op c.args.stacks.now a c.operator_by_call-answer.new.context.0) c.in-Err.is c.operator_by_call-answer.ensures.row) in
     subst (MayVisit md) (sym same) c.requires
 
 pub returns-in-Err-clause-row : goal.returns-in-Err-clause-row
 returns-in-Err-clause-row g c =
     let md = g.R.WasmModuleResources.context c.args.resources.now in
     let op : Context → Operator = λ cx. operator cx c.args.op.now in
-    moves_placed md IsRowRefused op c.args.stacks.now c.operator_by_call-answer.new.body.0 c.args.offset c.in-Err.told c.refuse.result c.refuse.new.body.0.body
-    (subst (λ a. Moves md IsRowRefused op c.args.stacks.now a c.operator_by_call-answer.new.body.0) c.in-Err.is c.operator_by_call-answer.ensures.row)
+    moves_placed md IsRowRefused op c.args.stacks.now c.operator_by_call-answer.new.context.0 c.args.offset c.in-Err.told c.refuse.result c.refuse.new.context.0.body
+    (subst (λ a. Moves md IsRowRefused op c.args.stacks.now a c.operator_by_call-answer.new.context.0) c.in-Err.is c.operator_by_call-answer.ensures.row)
     c.requires.valid c.refuse.ensures.offset c.refuse.ensures.told (λ _. c.refuse.ensures.valid) c.refuse.ensures.kept
 
 pub returns-in-Err-clause-memory : goal.returns-in-Err-clause-memory

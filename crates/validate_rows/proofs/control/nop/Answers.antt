@@ -7,6 +7,6 @@ use Rattle.validate_rows.proofs.control.nop.Goals as goal
 pub returns-clause-row : goal.returns-clause-row
 unfolding Moves
 returns-clause-row g c =
-    let md = g.R.WasmModuleResources.context c.args.body.resources.now in
-    let v = c.args.body.stacks.now.body in
+    let md = g.R.WasmModuleResources.context c.args.context.resources.now in
+    let v = c.args.context.stacks.now.body in
     record { step = plain_passes md v v v [] [] c.requires.open_frame (popped_none md v) refl; valid = c.requires.valid; kept = refl }

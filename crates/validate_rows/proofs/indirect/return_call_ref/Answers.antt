@@ -4,7 +4,7 @@ use Rattle.validate_shapes.proofs.Moves.{moves_barred, moves_found}
 use Rattle.validate_rows.proofs.indirect.return_call_ref.Goals as goal
 
 pub returns-in_err-reference : goal.returns-in_err-reference
-returns-in_err-reference g c = moves_barred _ _ c.args.body.stacks.now (λ cx hs. return_call_ref_row cx hs c.args.type_index) _ (search rules) (search rules)
+returns-in_err-reference g c = moves_barred _ _ c.args.context.stacks.now (λ cx hs. return_call_ref_row cx hs c.args.type_index) _ (search rules) (search rules)
 
 pub returns : goal.returns
-returns g c = moves_found _ _ c.args.body.stacks.now (λ cx hs. return_call_ref_row cx hs c.args.type_index) _ (λ cx hs. return_call_operand_row cx hs (Some c.in_ok-reference.reference) c.args.type_index) _ (search rules) c.return_call_operand.ensures
+returns g c = moves_found _ _ c.args.context.stacks.now (λ cx hs. return_call_ref_row cx hs c.args.type_index) _ (λ cx hs. return_call_operand_row cx hs (Some c.in_ok-reference.reference) c.args.type_index) _ (search rules) c.return_call_operand.ensures

@@ -19,13 +19,13 @@ use Rattle.validate_rows.proofs.references.br_on_non_null.Goals as goal
 
 module _ (g : Over) (c : Start g) where
   abbrev md : ModuleContext
-  md = g.R.WasmModuleResources.context c.args.body.resources.now
+  md = g.R.WasmModuleResources.context c.args.context.resources.now
 
   abbrev cx : Context
-  cx = body_context md c.args.body.stacks.now.body
+  cx = body_context md c.args.context.stacks.now.body
 
   abbrev hs : List Head
-  hs = heads c.args.body.stacks.now.body.present.frames
+  hs = heads c.args.context.stacks.now.body.present.frames
 
   barred_without_last : last_reference (label_types_at cx hs c.args.relative_depth) ≡ None → (br_on_non_null_row cx hs c.args.relative_depth).premise ≡ false
   barred_without_last = ap (λ o. (lookup_row o (br_on_non_null_row_for cx hs c.args.relative_depth)).premise)
@@ -41,7 +41,7 @@ module _ (g : Over) (c : After-label_types-types g) where
   types_of_label = c.label_types-types.ensures (cx g start) refl ∙ sym (label_there (cx g start) (hs g start) c.args.relative_depth _ _ c.in_ok-block_type.ensures.found).1
 
   types_valid : AllByRecursion (Valid (md g start)) c.label_types-types.result.now
-  types_valid = label_valid (md g start) c.args.body.stacks.now.body _ _ (g.met.R.WasmModuleResources.lawful c.args.body.resources.now) c.requires.valid types_of_label
+  types_valid = label_valid (md g start) c.args.context.stacks.now.body _ _ (g.met.R.WasmModuleResources.lawful c.args.context.resources.now) c.requires.valid types_of_label
 
 module _ (g : Over) (c : In_ok-others g) where
   abbrev labelled : After-label_types-types g
@@ -51,27 +51,27 @@ module _ (g : Over) (c : In_ok-others g) where
   ends_in_reference = ap last_reference (sym (types_of_label g labelled)) ∙ c.in_ok-others.ensures.found
 
   others_valid : AllByRecursion (Valid (md g (start g labelled))) c.in_ok-others.others.now
-  others_valid = before_last_valid (cx g (start g labelled)) (g.met.R.WasmModuleResources.lawful c.args.body.resources.now) _ _ (types_valid g labelled) c.in_ok-others.ensures.found
+  others_valid = before_last_valid (cx g (start g labelled)) (g.met.R.WasmModuleResources.lawful c.args.context.resources.now) _ _ (types_valid g labelled) c.in_ok-others.ensures.found
 
 pub returns-in_err-others : goal.returns-in_err-others
 returns-in_err-others g c =
     let types = types_of_label g (goal.at.returns-in_err-others g c).After-label_types-types in
     let none = barred_without_last g (goal.at.returns-in_err-others g c).Start (ap last_reference (sym types) ∙ c.in_err-others.ensures.refused) in
-    moves_barred _ _ c.args.body.stacks.now (λ cx hs. br_on_non_null_row cx hs c.args.relative_depth) _ (search rules) (search (rules, none))
+    moves_barred _ _ c.args.context.stacks.now (λ cx hs. br_on_non_null_row cx hs c.args.relative_depth) _ (search rules) (search (rules, none))
 
-pub exchange_under-requires-clause-under : goal.exchange_under-requires-clause-under
-exchange_under-requires-clause-under g c = others_valid g (goal.at.exchange_under-requires-clause-under g c).In_ok-others
+pub exchange_with_top-requires-clause-under : goal.exchange_with_top-requires-clause-under
+exchange_with_top-requires-clause-under g c = others_valid g (goal.at.exchange_with_top-requires-clause-under g c).In_ok-others
 
-pub exchange_under-requires-clause-above : goal.exchange_under-requires-clause-above
-exchange_under-requires-clause-above g c =
-    let at = (goal.at.exchange_under-requires-clause-above g c).After-label_types-types in
-    let valid = last_valid (cx g (start g at)) (g.met.R.WasmModuleResources.lawful c.args.body.resources.now) _ _ (types_valid g at) c.in_ok-others.ensures.found in
+pub exchange_with_top-requires-clause-above : goal.exchange_with_top-requires-clause-above
+exchange_with_top-requires-clause-above g c =
+    let at = (goal.at.exchange_with_top-requires-clause-above g c).After-label_types-types in
+    let valid = last_valid (cx g (start g at)) (g.met.R.WasmModuleResources.lawful c.args.context.resources.now) _ _ (types_valid g at) c.in_ok-others.ensures.found in
     subst (λ (r : RefType). is_valid_heap (md g (start g at)) r.heap_type ≡ true) (sym c.nullable.ensures) valid
 
 pub returns : goal.returns
 returns g c =
     let at = goal.at.returns g c in
-    let md = g.R.WasmModuleResources.context c.args.body.resources.now in
+    let md = g.R.WasmModuleResources.context c.args.context.resources.now in
     let others = c.in_ok-others.others.now in
-    let step = on_non_null_is md c.args.body.stacks.now.body c.requires.open_frame c.args.relative_depth _ _ c.nullable.result (has_the_label g at.After-label_types-types) (ends_in_reference g at.In_ok-others) c.nullable.ensures in
-    exchange_moves md _ (λ cx. staying_operator (λ hs. br_on_non_null_row cx hs c.args.relative_depth)) c.args.body.stacks.now _ (others ++ Ref c.nullable.result ∷ []) others step (others_valid g at.In_ok-others) c.requires.valid _ c.exchange_under.ensures
+    let step = on_non_null_is md c.args.context.stacks.now.body c.requires.open_frame c.args.relative_depth _ _ c.nullable.result (has_the_label g at.After-label_types-types) (ends_in_reference g at.In_ok-others) c.nullable.ensures in
+    exchange_moves md _ (λ cx. staying_operator (λ hs. br_on_non_null_row cx hs c.args.relative_depth)) c.args.context.stacks.now _ (others ++ Ref c.nullable.result ∷ []) others step (others_valid g at.In_ok-others) c.requires.valid _ c.exchange_with_top.ensures

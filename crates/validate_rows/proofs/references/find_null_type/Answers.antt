@@ -17,12 +17,12 @@ found None b (Ok t) opened is = absurd cc
 found (Some h) b (Ok t) opened is =
     ap (λ b. lookup_row (guard b (Some h)) null_row) opened ∙ ap (λ t. plain_row [] (t ∷ [])) (some_injective _ _ is)
 
-pub returns-in_err-find_null_open-clause-refused : goal.returns-in_err-find_null_open-clause-refused
-returns-in_err-find_null_open-clause-refused g c =
-    let closed = c.in_err-find_null_open.ensures.closed (g.R.WasmModuleResources.context c.args.body.now.resources.now) in
+pub returns-in_err-expect_null_open-clause-refused : goal.returns-in_err-expect_null_open-clause-refused
+returns-in_err-expect_null_open-clause-refused g c =
+    let closed = c.in_err-expect_null_open.ensures.closed (g.R.WasmModuleResources.context c.args.context.now.resources.now) in
     search (rules, closed)
 
 pub returns-clause-found : goal.returns-clause-found
 returns-clause-found g c =
-    let md = g.R.WasmModuleResources.context c.args.body.now.resources.now in
-    found (md.canonical_heap c.args.heap_type) _ c.heap_reference.result (c.in_ok-find_null_open.ensures.open md) c.heap_reference.ensures.found
+    let md = g.R.WasmModuleResources.context c.args.context.now.resources.now in
+    found (md.canonical_heap c.args.heap_type) _ c.heap_reference.result (c.in_ok-expect_null_open.ensures.open md) c.heap_reference.ensures.found

@@ -12,10 +12,10 @@ use Rattle.validate_rows.proofs.variables.local_set.Goals as goal
 -- the local is set already, so that nothing more is set
 pub returns-then-pop_local_at_once : goal.returns-then-pop_local_at_once
 returns-then-pop_local_at_once g c =
-    let md = g.R.WasmModuleResources.context c.args.body.resources.now in
-    let v = c.args.body.stacks.now.body in
+    let md = g.R.WasmModuleResources.context c.args.context.resources.now in
+    let v = c.args.context.stacks.now.body in
     let ty = c.in_ok-ty.ty in
     let set = not_false _ (sym c.is_uninit.ensures ∙ c.if-is_uninit.false) in
     let is = local_set_is md v c.args.local_index ty c.in_ok-ty.ensures.found c.requires.open_frame ∙ taken_set md (ty ∷ []) c.args.local_index [] v set in
     let exact = was_made _ c.pop_local_at_once.result c.if-pop_local_at_once.true c.pop_local_at_once.ensures.exact in
-    exchange_moves md _ _ c.args.body.stacks.now _ (ty ∷ []) [] is tt c.requires.valid (Ok tt) (takes_done md _ (ty ∷ []) (body_pushed_each []) c.args.body.stacks.now _ exact)
+    exchange_moves md _ _ c.args.context.stacks.now _ (ty ∷ []) [] is tt c.requires.valid (Ok tt) (takes_done md _ (ty ∷ []) (body_pushed_each []) c.args.context.stacks.now _ exact)

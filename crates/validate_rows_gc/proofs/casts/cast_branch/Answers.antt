@@ -31,10 +31,10 @@ use Rattle.validate_rows_gc.proofs.casts.cast_branch.Goals as goal
 -- the state below the operands that go too
 module _ (g : Over) (c : Start g) where
   abbrev md : ModuleContext
-  md = g.R.WasmModuleResources.context c.args.body.resources.now
+  md = g.R.WasmModuleResources.context c.args.context.resources.now
 
   abbrev below : BodyState
-  below = body_dropped c.args.above c.args.body.stacks.now.body
+  below = body_dropped c.args.above c.args.context.stacks.now.body
 
   abbrev cx : Context
   cx = body_context md below
@@ -43,17 +43,17 @@ module _ (g : Over) (c : Start g) where
   hs = heads below.present.frames
 
   laws : IsLawful md
-  laws = g.met.R.WasmModuleResources.lawful c.args.body.resources.now
+  laws = g.met.R.WasmModuleResources.lawful c.args.context.resources.now
 
   -- the step of the branch there, by its types
   abbrev branched : CastTypes → Option BodyState
   branched types = step_body md (λ x. staying_operator (λ hs. cast_branch_row x hs c.args.relative_depth types)) below
 
   abbrev Steps : (Context → Operator) → CastTypes → Type 0
-  Steps whole types = step_body md whole c.args.body.stacks.now.body ≡ branched types
+  Steps whole types = step_body md whole c.args.context.stacks.now.body ≡ branched types
 
   -- its row doesn't hold
-  none_where_barred : (whole : Context → Operator) (types : CastTypes) → Steps whole types → (cast_branch_row cx hs c.args.relative_depth types).premise ≡ false → step_body md whole c.args.body.stacks.now.body ≡ None
+  none_where_barred : (whole : Context → Operator) (types : CastTypes) → Steps whole types → (cast_branch_row cx hs c.args.relative_depth types).premise ≡ false → step_body md whole c.args.context.stacks.now.body ≡ None
   none_where_barred whole types same h = same ∙ barred md below (λ x hs. cast_branch_row x hs c.args.relative_depth types) h
 
 -- the label is there
@@ -62,7 +62,7 @@ module _ (g : Over) (c : After-label_types-types g) where
   start = (goal.at.After-label_types-types g c).Start
 
   there : label_at (below g start) c.args.relative_depth ≡ Some (c.in_ok-block_type.block_type, c.in_ok-block_type.kind)
-  there = dropped_label c.args.above c.args.relative_depth c.args.body.stacks.now.body ∙ c.in_ok-block_type.ensures.found
+  there = dropped_label c.args.above c.args.relative_depth c.args.context.stacks.now.body ∙ c.in_ok-block_type.ensures.found
 
   has_the_label : has_label (hs g start) c.args.relative_depth ≡ true
   has_the_label = (label_there (cx g start) (hs g start) c.args.relative_depth _ _ there).0
@@ -71,7 +71,7 @@ module _ (g : Over) (c : After-label_types-types g) where
   types_of_label = c.label_types-types.ensures (cx g start) refl ∙ sym (label_there (cx g start) (hs g start) c.args.relative_depth _ _ there).1
 
   types_valid : AllByRecursion (Valid (md g start)) c.label_types-types.result.now
-  types_valid = label_valid (md g start) (below g start) c.args.relative_depth c.label_types-types.result.now (laws g start) (dropped_valid (md g start) c.args.above c.args.body.stacks.now.body c.requires.visit.valid) types_of_label
+  types_valid = label_valid (md g start) (below g start) c.args.relative_depth c.label_types-types.result.now (laws g start) (dropped_valid (md g start) c.args.above c.args.context.stacks.now.body c.requires.visit.valid) types_of_label
 
 -- it has a last type
 module _ (g : Over) (c : In_ok-others g) where
@@ -111,17 +111,17 @@ module _ (g : Over) (c : After-types-cast g) where
   pushed = c.in_ok-others.others.now ++ Ref types.left ∷ []
 
   -- what is carried lies below the last type
-  branches : (md g first).below (Ref types.carried) c.in_ok-others.last ≡ true → (whole : Context → Operator) → Steps g first whole (branch_types c.args.branch c.args.cast) → step_body (md g first) whole c.args.body.stacks.now.body ≡ option_map (λ u. body_pushed_each pushed u) (body_popped_each (md g first) (reverse expected) (below g first))
+  branches : (md g first).below (Ref types.carried) c.in_ok-others.last ≡ true → (whole : Context → Operator) → Steps g first whole (branch_types c.args.branch c.args.cast) → step_body (md g first) whole c.args.context.stacks.now.body ≡ option_map (λ u. body_pushed_each pushed u) (body_popped_each (md g first) (reverse expected) (below g first))
   branches carried whole same =
       let at = goal.at.After-types-cast g c in
       by_types whole same
-      ∙ branch_is (md g first) (below g first) (dropped_open c.args.above c.args.body.stacks.now.body c.requires.visit.open_frame) c.args.relative_depth types c.in_ok-others.others.now c.in_ok-others.last (has_the_label g at.After-label_types-types) (ends_in_last g at.In_ok-others) carried
+      ∙ branch_is (md g first) (below g first) (dropped_open c.args.above c.args.context.stacks.now.body c.requires.visit.open_frame) c.args.relative_depth types c.in_ok-others.others.now c.in_ok-others.last (has_the_label g at.After-label_types-types) (ends_in_last g at.In_ok-others) carried
 
 pub returns-in_err-block_type : goal.returns-in_err-block_type
 returns-in_err-block_type g c = λ whole same.
     let start = (goal.at.returns-in_err-block_type g c).Start in
     let types = branch_types c.args.branch c.args.cast in
-    let missing = dropped_label c.args.above c.args.relative_depth c.args.body.stacks.now.body ∙ c.in_err-block_type.ensures.missing in
+    let missing = dropped_label c.args.above c.args.relative_depth c.args.context.stacks.now.body ∙ c.in_err-block_type.ensures.missing in
     let none = none_where_barred g start whole types same (barred_unlabelled (md g start) (below g start) c.args.relative_depth types (no_label (hs g start) c.args.relative_depth missing)) in
     unmoved _ _ whole _ _ _ (search rules) refl (search (rules, none))
 
@@ -150,18 +150,18 @@ returns-in_err-check_carried g c = λ whole same.
     let none = none_where_barred g at.Start whole (types g at.After-types-cast) (by_types g at.After-types-cast whole same) barred_here in
     unmoved _ _ whole _ _ _ (search rules) refl (search (rules, none))
 
-pub find_under-requires-clause-under : goal.find_under-requires-clause-under
-find_under-requires-clause-under g c = others_valid g (goal.at.find_under-requires-clause-under g c).In_ok-others
+pub expect_with_top-requires-clause-under : goal.expect_with_top-requires-clause-under
+expect_with_top-requires-clause-under g c = others_valid g (goal.at.expect_with_top-requires-clause-under g c).In_ok-others
 
-pub find_under-requires-clause-top : goal.find_under-requires-clause-top
-find_under-requires-clause-top g c = from_is_valid g (goal.at.find_under-requires-clause-top g c).After-types-cast
+pub expect_with_top-requires-clause-top : goal.expect_with_top-requires-clause-top
+expect_with_top-requires-clause-top g c = from_is_valid g (goal.at.expect_with_top-requires-clause-top g c).After-types-cast
 
-pub returns-in_err-find_under : goal.returns-in_err-find_under
-returns-in_err-find_under g c = λ whole same.
-    let at = goal.at.returns-in_err-find_under g c in
+pub returns-in_err-expect_with_top : goal.returns-in_err-expect_with_top
+returns-in_err-expect_with_top g c = λ whole same.
+    let at = goal.at.returns-in_err-expect_with_top g c in
     let typed = at.After-types-cast in
     let is = branches g typed c.in_ok-check_carried.ensures.passed whole same in
-    let none = unfit_below (md g at.Start) g.A.Refused.tells whole c.args.body.stacks.now c.args.body.stacks.now c.args.above (expected g typed) (pushed g typed) is c.requires.visit.open_frame c.in_err-find_under.ensures.unfit in
+    let none = unfit_below (md g at.Start) g.A.Refused.tells whole c.args.context.stacks.now c.args.context.stacks.now c.args.above (expected g typed) (pushed g typed) is c.requires.visit.open_frame c.in_err-expect_with_top.ensures.unfit in
     unmoved _ _ whole _ _ _ (search rules) refl (search (rules, none))
 
 pub returns : goal.returns
@@ -171,7 +171,7 @@ returns g c = λ whole same.
     let others = c.in_ok-others.others.now in
     let is = branches g typed c.in_ok-check_carried.ensures.passed whole same in
     let valid = all_both (Valid (md g at.Start)) others (Ref (types g typed).left ∷ []) (others_valid g at.In_ok-others) (left_is_valid g typed, tt) in
-    let put = sym (pushed_then others (Ref (types g typed).left ∷ []) (body_dropped c.min-popped.result c.args.body.stacks.now.body)) in
-    let moved = subst (λ (u : BodyState). MatchResult c.exchange_topped.result (λ _. c.exchange_topped.new.self.body ≡ u) (λ _. c.exchange_topped.new.self ≡ c.args.body.stacks.now)) put c.exchange_topped.ensures.exact in
-    moved_below (md g at.Start) g.A.Refused.tells whole c.args.body.stacks.now _ c.args.above (expected g typed) (pushed g typed) is c.in_ok-find_under.ensures.fit valid c.requires.visit.valid c.min-popped.result
-    (omega (arith, c.min-popped.ensures, c.own_len.ensures, length-append others (Ref (types g typed).from ∷ []))) c.exchange_topped.result c.exchange_topped.ensures.told moved
+    let put = sym (pushed_then others (Ref (types g typed).left ∷ []) (body_dropped c.min-popped.result c.args.context.stacks.now.body)) in
+    let moved = subst (λ (u : BodyState). MatchResult c.exchange_topped.result (λ _. c.exchange_topped.new.self.body ≡ u) (λ _. c.exchange_topped.new.self ≡ c.args.context.stacks.now)) put c.exchange_topped.ensures.exact in
+    moved_below (md g at.Start) g.A.Refused.tells whole c.args.context.stacks.now _ c.args.above (expected g typed) (pushed g typed) is c.in_ok-expect_with_top.ensures.fit valid c.requires.visit.valid c.min-popped.result
+    (omega (arith, c.min-popped.ensures, c.own_operand_count.ensures, length-append others (Ref (types g typed).from ∷ []))) c.exchange_topped.result c.exchange_topped.ensures.told moved

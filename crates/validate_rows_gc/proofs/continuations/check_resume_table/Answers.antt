@@ -10,16 +10,16 @@ use Rattle.validate_rows_gc.proofs.continuations.check_resume_table.Goals as goa
 
 pub returns-in_err-func_type-clause-refused : goal.returns-in_err-func_type-clause-refused
 returns-in_err-func_type-clause-refused g c =
-    let v = c.args.body.now.stacks.now.body in
-    let cx = body_context (g.R.WasmModuleResources.context c.args.body.now.resources.now) v in
+    let v = c.args.context.now.stacks.now.body in
+    let cx = body_context (g.R.WasmModuleResources.context c.args.context.now.resources.now) v in
     let none : continuation_signature cx c.args.cont_type_index ≡ None → IsNeverResumed cx (heads v.present.frames) c.args.cont_type_index c.args.handlers.now =
     not_a_continuation cx (heads v.present.frames) c.args.cont_type_index c.args.handlers.now in
     search (rules, none)
 
 pub returns-in_err-check_handlers-clause-refused : goal.returns-in_err-check_handlers-clause-refused
 returns-in_err-check_handlers-clause-refused g c =
-    let v = c.args.body.now.stacks.now.body in
-    let cx = body_context (g.R.WasmModuleResources.context c.args.body.now.resources.now) v in
+    let v = c.args.context.now.stacks.now.body in
+    let cx = body_context (g.R.WasmModuleResources.context c.args.context.now.resources.now) v in
     let hs = heads v.present.frames in
     let f = c.in_ok-func_type.func_type.now in
     let none : are_fitting_handlers cx hs f c.args.handlers.now ≡ false → IsNeverResumed cx hs c.args.cont_type_index c.args.handlers.now =
@@ -28,8 +28,8 @@ returns-in_err-check_handlers-clause-refused g c =
 
 pub returns-in_err-reference-clause-refused : goal.returns-in_err-reference-clause-refused
 returns-in_err-reference-clause-refused g c =
-    let v = c.args.body.now.stacks.now.body in
-    let cx = body_context (g.R.WasmModuleResources.context c.args.body.now.resources.now) v in
+    let v = c.args.context.now.stacks.now.body in
+    let cx = body_context (g.R.WasmModuleResources.context c.args.context.now.resources.now) v in
     let none : type_reference cx nullable_reference c.args.cont_type_index ≡ None → IsNeverResumed cx (heads v.present.frames) c.args.cont_type_index c.args.handlers.now =
     not_a_reference cx (heads v.present.frames) c.args.cont_type_index c.args.handlers.now in
     search (rules, none)

@@ -13,8 +13,8 @@ use Rattle.validate_rows_gc.proofs.continuations.resume_throw_ref_types.Goals as
 
 pub returns-in_err-resumed : goal.returns-in_err-resumed
 returns-in_err-resumed g c =
-    let v = c.args.body.now.stacks.now.body in
-    let cx = body_context (g.R.WasmModuleResources.context c.args.body.now.resources.now) v in
+    let v = c.args.context.now.stacks.now.body in
+    let cx = body_context (g.R.WasmModuleResources.context c.args.context.now.resources.now) v in
     let hs = heads v.present.frames in
     let never : IsNeverResumed cx hs c.args.cont_type_index c.args.handlers.now → (resume_throw_ref_row cx hs c.args.cont_type_index c.args.handlers.now).premise ≡ false =
     λ n. n.barred (λ (f : Signature). Some (Ref (nullable_reference exception) ∷ [])) in
@@ -22,8 +22,8 @@ returns-in_err-resumed g c =
 
 pub returns : goal.returns
 returns g c =
-    let v = c.args.body.now.stacks.now.body in
-    let cx = body_context (g.R.WasmModuleResources.context c.args.body.now.resources.now) v in
+    let v = c.args.context.now.stacks.now.body in
+    let cx = body_context (g.R.WasmModuleResources.context c.args.context.now.resources.now) v in
     let hs = heads v.present.frames in
     let f = c.in_ok-resumed.resumed.func_type.now in
     let t = c.in_ok-resumed.resumed.reference in

@@ -16,10 +16,10 @@ use Rattle.validate_rows_gc.proofs.continuations.switch_types.Goals as goal
 
 module _ (g : Over) (c : In-Some g) where
   abbrev md : ModuleContext
-  md = g.R.WasmModuleResources.context c.args.body.now.resources.now
+  md = g.R.WasmModuleResources.context c.args.context.now.resources.now
 
   abbrev cx : Context
-  cx = body_context md c.args.body.now.stacks.now.body
+  cx = body_context md c.args.context.now.stacks.now.body
 
   takes_nothing : length c.in_ok-tag_type.tag_type.now.params ≡ 0
   takes_nothing = ap length (sym c.params.ensures) ∙ c.if-params-ne0.false
@@ -42,15 +42,15 @@ module _ (g : Over) (c : In-Some-referenced_continuation g) where
   refers_to_other = sym c.referenced_continuation.ensures ∙ ap option_copied c.in-Some-referenced_continuation.is
 
   other_valid : AllByRecursion (Valid (md g last_found)) c.in-Some-referenced_continuation.other.now.params × AllByRecursion (Valid (md g last_found)) c.in-Some-referenced_continuation.other.now.results
-  other_valid = referenced_valid (cx g last_found) (g.met.R.WasmModuleResources.lawful c.args.body.now.resources.now) c.in-Some.last.now _ refers_to_other
+  other_valid = referenced_valid (cx g last_found) (g.met.R.WasmModuleResources.lawful c.args.context.now.resources.now) c.in-Some.last.now _ refers_to_other
 
-switches_as_told : (g : Over) (c : After-is_func_subtype g) → may_switch (g.R.WasmModuleResources.context c.args.body.now.resources.now) c.in_ok-tag_type.tag_type.now.results c.in_ok-func_type.func_type.now c.in-Some-referenced_continuation.other.now ≡ c.is_func_subtype.result
+switches_as_told : (g : Over) (c : After-is_func_subtype g) → may_switch (g.R.WasmModuleResources.context c.args.context.now.resources.now) c.in_ok-tag_type.tag_type.now.results c.in_ok-func_type.func_type.now c.in-Some-referenced_continuation.other.now ≡ c.is_func_subtype.result
 switches_as_told g c = rw (sym c.results-pushed.ensures, sym c.results-back.ensures, sym c.results.ensures) (sym c.is_func_subtype.ensures)
 
 pub returns-then-not-is_concrete_reference : goal.returns-then-not-is_concrete_reference
 returns-then-not-is_concrete_reference g c =
     let none = barred_without_other g (goal.at.returns-then-not-is_concrete_reference g c).In-Some in
-    record { found = tt; valid = tt; refused = λ _. none (c.is_concrete_reference.ensures (g.R.WasmModuleResources.context c.args.body.now.resources.now) c.if-not-is_concrete_reference.true) }
+    record { found = tt; valid = tt; refused = λ _. none (c.is_concrete_reference.ensures (g.R.WasmModuleResources.context c.args.context.now.resources.now) c.if-not-is_concrete_reference.true) }
 
 pub referenced_continuation-requires : goal.referenced_continuation-requires
 referenced_continuation-requires g c = (others_and_last_valid g (goal.at.referenced_continuation-requires g c).In-Some).1
@@ -62,7 +62,7 @@ returns-in_default-referenced_continuation g c =
 
 pub is_func_subtype-requires-clause-r2 : goal.is_func_subtype-requires-clause-r2
 is_func_subtype-requires-clause-r2 g c =
-    subst (AllByRecursion (Valid (g.R.WasmModuleResources.context c.args.body.now.resources.now))) (sym c.results.ensures) (other_valid g (goal.at.is_func_subtype-requires-clause-r2 g c).In-Some-referenced_continuation).1
+    subst (AllByRecursion (Valid (g.R.WasmModuleResources.context c.args.context.now.resources.now))) (sym c.results.ensures) (other_valid g (goal.at.is_func_subtype-requires-clause-r2 g c).In-Some-referenced_continuation).1
 
 pub returns-then-not-is_func_subtype : goal.returns-then-not-is_func_subtype
 returns-then-not-is_func_subtype g c =
@@ -84,6 +84,6 @@ returns g c =
       found =
           leading_back (cx g at.In-Some) c.args.cont_type_index c.args.tag_index c.in_ok-func_type.func_type.now c.in_ok-tag_type.tag_type.now c.in_ok-func_type.ensures.found c.in_ok-tag_type.ensures.found (takes_nothing g at.In-Some) _ _ (ends_in_last g at.In-Some) c.in-Some-referenced_continuation.other.now (refers_to_other g at.In-Some-referenced_continuation) c.in_ok-from.from c.in_ok-from.ensures.found switches
           ∙ ap (λ (ps : List ValType). plain_row (c.in-Some.others.now ++ c.in_ok-from.from ∷ []) ps) (sym c.params-3.ensures);
-      valid = ((valid.0, c.in_ok-from.ensures.valid), subst (AllByRecursion (Valid (g.R.WasmModuleResources.context c.args.body.now.resources.now))) (sym c.params-3.ensures) (other_valid g at.In-Some-referenced_continuation).0);
+      valid = ((valid.0, c.in_ok-from.ensures.valid), subst (AllByRecursion (Valid (g.R.WasmModuleResources.context c.args.context.now.resources.now))) (sym c.params-3.ensures) (other_valid g at.In-Some-referenced_continuation).0);
       refused = tt;
     }

@@ -22,13 +22,13 @@ use Rattle.validate_rows_gc.proofs.descriptors.ref_cast_desc_eq.Goals as goal
 
 module _ (g : Over) (c : After-is_exact g) where
   abbrev md : ModuleContext
-  md = g.R.WasmModuleResources.context c.args.body.resources.now
+  md = g.R.WasmModuleResources.context c.args.context.resources.now
 
   abbrev cx : Context
-  cx = body_context md c.args.body.stacks.now.body
+  cx = body_context md c.args.context.stacks.now.body
 
-  found_as_exact : found_descriptor cx (is_exact c.args.heap_type.now) c.in_ok-descriptor.descriptor (found_in_body c.args.body.stacks.now.body) ≡ found_descriptor cx c.is_exact.result c.in_ok-descriptor.descriptor (found_in_body c.args.body.stacks.now.body)
-  found_as_exact = ap (λ b. found_descriptor cx b c.in_ok-descriptor.descriptor (found_in_body c.args.body.stacks.now.body)) (sym c.is_exact.ensures)
+  found_as_exact : found_descriptor cx (is_exact c.args.heap_type.now) c.in_ok-descriptor.descriptor (found_in_body c.args.context.stacks.now.body) ≡ found_descriptor cx c.is_exact.result c.in_ok-descriptor.descriptor (found_in_body c.args.context.stacks.now.body)
+  found_as_exact = ap (λ b. found_descriptor cx b c.in_ok-descriptor.descriptor (found_in_body c.args.context.stacks.now.body)) (sym c.is_exact.ensures)
 
 -- once the type is known, it is a cast below the descriptor
 module _ (g : Over) (c : After-operand_of_cast-operand g) where
@@ -36,41 +36,41 @@ module _ (g : Over) (c : After-operand_of_cast-operand g) where
   exactly = (goal.at.After-operand_of_cast-operand g c).After-is_exact
 
   abbrev below : BodyState
-  below = body_dropped 1 c.args.body.stacks.now.body
+  below = body_dropped 1 c.args.context.stacks.now.body
 
-  casts_below : step_body (md g exactly) (λ x. row_operator (ref_cast_desc_eq_row x c.args.nullable c.args.heap_type.now)) c.args.body.stacks.now.body ≡ option_map (λ u. body_pushed_each (Ref c.in_ok-ty.ty ∷ []) u) (body_popped_each (md g exactly) (reverse (c.operand_of_cast-operand.result ∷ [])) below)
+  casts_below : step_body (md g exactly) (λ x. row_operator (ref_cast_desc_eq_row x c.args.nullable c.args.heap_type.now)) c.args.context.stacks.now.body ≡ option_map (λ u. body_pushed_each (Ref c.in_ok-ty.ty ∷ []) u) (body_popped_each (md g exactly) (reverse (c.operand_of_cast-operand.result ∷ [])) below)
   casts_below =
       let m = md g exactly in
-      let v = c.args.body.stacks.now.body in
-      cast_rest m v c.requires.open_frame c.args.nullable c.args.heap_type.now _ c.in_ok-ty.ty below c.in_ok-descriptor.ensures.found c.in_ok-ty.ensures.found (found_as_exact g exactly ∙ c.in_ok-find_descriptor.ensures.passed) (dropped_once v)
+      let v = c.args.context.stacks.now.body in
+      cast_rest m v c.requires.open_frame c.args.nullable c.args.heap_type.now _ c.in_ok-ty.ty below c.in_ok-descriptor.ensures.found c.in_ok-ty.ensures.found (found_as_exact g exactly ∙ c.in_ok-expect_descriptor.ensures.passed) (dropped_once v)
       ∙ (ap (λ (t : ValType). step_body m (λ x. row_operator (plain_row (t ∷ []) (Ref c.in_ok-ty.ty ∷ []))) below) (sym c.operand_of_cast-operand.ensures.exact)
       ∙ plain_is m below (c.operand_of_cast-operand.result ∷ []) (Ref c.in_ok-ty.ty ∷ []) (dropped_open 1 v c.requires.open_frame))
 
 pub returns-in_err-descriptor : goal.returns-in_err-descriptor
 returns-in_err-descriptor g c =
-    let none = no_descriptor (g.R.WasmModuleResources.context c.args.body.resources.now) c.args.body.stacks.now.body c.requires.open_frame c.args.nullable c.args.heap_type.now c.in_err-descriptor.ensures.refused in
-    moves_barred _ _ c.args.body.stacks.now (λ cx hs. ref_cast_desc_eq_row cx c.args.nullable c.args.heap_type.now) _ (search rules) (search (rules, none))
+    let none = no_descriptor (g.R.WasmModuleResources.context c.args.context.resources.now) c.args.context.stacks.now.body c.requires.open_frame c.args.nullable c.args.heap_type.now c.in_err-descriptor.ensures.refused in
+    moves_barred _ _ c.args.context.stacks.now (λ cx hs. ref_cast_desc_eq_row cx c.args.nullable c.args.heap_type.now) _ (search rules) (search (rules, none))
 
-pub returns-in_err-find_descriptor : goal.returns-in_err-find_descriptor
-returns-in_err-find_descriptor g c =
-    let at = (goal.at.returns-in_err-find_descriptor g c).After-is_exact in
-    let none = cast_missing (md g at) c.args.body.stacks.now.body c.requires.open_frame c.args.nullable c.args.heap_type.now _ c.in_ok-descriptor.ensures.found (found_as_exact g at ∙ c.in_err-find_descriptor.ensures.refused) in
+pub returns-in_err-expect_descriptor : goal.returns-in_err-expect_descriptor
+returns-in_err-expect_descriptor g c =
+    let at = (goal.at.returns-in_err-expect_descriptor g c).After-is_exact in
+    let none = cast_missing (md g at) c.args.context.stacks.now.body c.requires.open_frame c.args.nullable c.args.heap_type.now _ c.in_ok-descriptor.ensures.found (found_as_exact g at ∙ c.in_err-expect_descriptor.ensures.refused) in
     unmoved _ _ _ _ _ _ (search rules) refl (search (rules, none))
 
 pub returns-in_err-ty : goal.returns-in_err-ty
 returns-in_err-ty g c =
     let at = (goal.at.returns-in_err-ty g c).After-is_exact in
-    let none = λ (n : cast_type (cx g at) c.args.nullable c.args.heap_type.now ≡ None). not_castable (md g at) c.args.body.stacks.now.body c.requires.open_frame c.args.nullable c.args.heap_type.now _ c.in_ok-descriptor.ensures.found n in
+    let none = λ (n : cast_type (cx g at) c.args.nullable c.args.heap_type.now ≡ None). not_castable (md g at) c.args.context.stacks.now.body c.requires.open_frame c.args.nullable c.args.heap_type.now _ c.in_ok-descriptor.ensures.found n in
     unmoved _ _ _ _ _ _ (search rules) refl (search (rules, none, c.in_err-ty.ensures.refused))
 
-pub returns-in_err-find_operands : goal.returns-in_err-find_operands
-returns-in_err-find_operands g c =
-    let at = goal.at.returns-in_err-find_operands g c in
-    let none = unfit_below (md g at.After-is_exact) g.A.Refused.tells (λ x. row_operator (ref_cast_desc_eq_row x c.args.nullable c.args.heap_type.now)) c.args.body.stacks.now c.args.body.stacks.now 1 (c.operand_of_cast-operand.result ∷ []) (Ref c.in_ok-ty.ty ∷ []) (casts_below g at.After-operand_of_cast-operand) c.requires.open_frame c.in_err-find_operands.ensures.unfit in
+pub returns-in_err-expect_operands : goal.returns-in_err-expect_operands
+returns-in_err-expect_operands g c =
+    let at = goal.at.returns-in_err-expect_operands g c in
+    let none = unfit_below (md g at.After-is_exact) g.A.Refused.tells (λ x. row_operator (ref_cast_desc_eq_row x c.args.nullable c.args.heap_type.now)) c.args.context.stacks.now c.args.context.stacks.now 1 (c.operand_of_cast-operand.result ∷ []) (Ref c.in_ok-ty.ty ∷ []) (casts_below g at.After-operand_of_cast-operand) c.requires.open_frame c.in_err-expect_operands.ensures.unfit in
     unmoved _ _ _ _ _ _ (search rules) refl (search (rules, none))
 
 pub returns : goal.returns
 returns g c =
     let at = goal.at.returns g c in
-    moved_below (md g at.After-is_exact) _ _ c.args.body.stacks.now _ 1 (c.operand_of_cast-operand.result ∷ []) (Ref c.in_ok-ty.ty ∷ []) (casts_below g at.After-operand_of_cast-operand) c.in_ok-find_operands.ensures.fit (c.in_ok-ty.ensures.valid, tt) c.requires.valid c.min.result
-    (omega (arith, c.min.ensures, c.own_len-own.ensures)) c.replace.result c.replace.ensures.told c.replace.ensures.exact
+    moved_below (md g at.After-is_exact) _ _ c.args.context.stacks.now _ 1 (c.operand_of_cast-operand.result ∷ []) (Ref c.in_ok-ty.ty ∷ []) (casts_below g at.After-operand_of_cast-operand) c.in_ok-expect_operands.ensures.fit (c.in_ok-ty.ensures.valid, tt) c.requires.valid c.min.result
+    (omega (arith, c.min.ensures, c.own_operand_count-own.ensures)) c.replace.result c.replace.ensures.told c.replace.ensures.exact

@@ -9,14 +9,14 @@ use Rattle.validate_rows_gc.proofs.found.convert_ref.Goals as goal
 
 pub returns-in_err-found : goal.returns-in_err-found
 returns-in_err-found g c =
-    let md = g.R.WasmModuleResources.context c.args.body.resources.now in
-    let none = found_none md c.args.body.stacks.now.body c.requires.open_frame c.args.from (λ m x. converted_operand m c.args.into x) c.in_err-found.ensures.refused in
+    let md = g.R.WasmModuleResources.context c.args.context.resources.now in
+    let none = found_none md c.args.context.stacks.now.body c.requires.open_frame c.args.from (λ m x. converted_operand m c.args.into x) c.in_err-found.ensures.refused in
     unmoved _ _ _ _ _ _ (search rules) refl (search (rules, none))
 
 pub returns : goal.returns
 returns g c =
-    let md = g.R.WasmModuleResources.context c.args.body.resources.now in
-    let v = c.args.body.stacks.now.body in
+    let md = g.R.WasmModuleResources.context c.args.context.resources.now in
+    let v = c.args.context.stacks.now.body in
     let step = found_some md v c.requires.open_frame c.args.from (λ m x. converted_operand m c.args.into x) c.in_ok-found.found c.in_ok-found.ensures.found c.in_ok-found.ensures.passed ∙ ap (λ (x : MaybeType). Some (body_pushed x (body_popped v))) (sym c.converted-made.ensures.exact) in
-    let whole = one_dropped c.min.result v (omega (arith, c.min.ensures, c.own_len-own.ensures)) in
-    replaced_moves md _ _ c.args.body.stacks.now _ c.min.result (body_popped v) c.converted-made.result whole step c.converted-made.ensures.valid (popped_valid md v c.requires.valid) (popped_kept v) c.replace.result c.replace.ensures.told c.replace.ensures.exact
+    let whole = one_dropped c.min.result v (omega (arith, c.min.ensures, c.own_operand_count-own.ensures)) in
+    replaced_moves md _ _ c.args.context.stacks.now _ c.min.result (body_popped v) c.converted-made.result whole step c.converted-made.ensures.valid (popped_valid md v c.requires.valid) (popped_kept v) c.replace.result c.replace.ensures.told c.replace.ensures.exact

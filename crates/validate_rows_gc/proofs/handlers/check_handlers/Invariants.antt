@@ -7,6 +7,6 @@ use Rattle.validate_rows_gc.proofs.handlers.check_handlers.Given as goal
 
 abbrev pub invariant-loop-handle : goal.invariant-loop-handle
 invariant-loop-handle g l =
-    let cx = body_context (g.R.WasmModuleResources.context l.body.resources.now) l.body.stacks.now.body in
-    let hs = heads l.body.stacks.now.body.present.frames in
+    let cx = body_context (g.R.WasmModuleResources.context l.context.resources.now) l.context.stacks.now.body in
+    let hs = heads l.context.stacks.now.body.present.frames in
     are_fitting_handlers cx hs l.resumed (drop l.handle-index l.handlers) ≡ are_fitting_handlers cx hs l.resumed l.handlers

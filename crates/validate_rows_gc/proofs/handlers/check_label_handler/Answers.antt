@@ -23,13 +23,13 @@ use Rattle.validate_rows_gc.proofs.handlers.check_label_handler.Goals as goal
 
 module _ (g : Over) (c : In_ok-tag_type g) where
   abbrev md : ModuleContext
-  md = g.R.WasmModuleResources.context c.args.body.now.resources.now
+  md = g.R.WasmModuleResources.context c.args.context.now.resources.now
 
   abbrev cx : Context
-  cx = body_context md c.args.body.now.stacks.now.body
+  cx = body_context md c.args.context.now.stacks.now.body
 
   abbrev hs : List Head
-  hs = heads c.args.body.now.stacks.now.body.present.frames
+  hs = heads c.args.context.now.stacks.now.body.present.frames
 
   refused_at_no_types : label_types_at cx hs c.args.label_index ≡ [] → is_fitting_handler cx hs c.args.resumed.now (OnLabel c.args.tag_index c.args.label_index) ≡ false
   refused_at_no_types = label_empty cx hs c.args.resumed.now c.in_ok-tag_type.tag_type.now c.args.tag_index c.args.label_index c.in_ok-tag_type.ensures.found
@@ -54,8 +54,8 @@ module _ (g : Over) (c : In-Some g) where
 
   others_and_last_valid : AllByRecursion (Valid (md g found)) c.in-Some.others.now × Valid (md g found) c.in-Some.last.now
   others_and_last_valid =
-      let laws = g.met.R.WasmModuleResources.lawful c.args.body.now.resources.now in
-      front_and_last (Valid (md g found)) _ _ (subst (AllByRecursion (Valid (md g found))) c.in-Some.ensures.cases.0 (label_valid (md g found) c.args.body.now.stacks.now.body _ _ laws c.requires.state (expected_is_of_label g (goal.at.In-Some g c).After-label_types-expected)))
+      let laws = g.met.R.WasmModuleResources.lawful c.args.context.now.resources.now in
+      front_and_last (Valid (md g found)) _ _ (subst (AllByRecursion (Valid (md g found))) c.in-Some.ensures.cases.0 (label_valid (md g found) c.args.context.now.stacks.now.body _ _ laws c.requires.state (expected_is_of_label g (goal.at.In-Some g c).After-label_types-expected)))
 
   refused_where_not_continued : continues (md g found) c.args.resumed.now c.in_ok-tag_type.tag_type.now (referenced_continuation (md g found) c.in-Some.last.now) ≡ false → is_fitting_handler (cx g found) (hs g found) c.args.resumed.now (OnLabel c.args.tag_index c.args.label_index) ≡ false
   refused_where_not_continued = not_continued (cx g found) (hs g found) c.args.resumed.now c.in_ok-tag_type.tag_type.now _ _ c.in_ok-tag_type.ensures.found _ _ ends_in_last
@@ -87,11 +87,11 @@ module _ (g : Over) (c : In-Some-referenced_continuation g) where
   last_continues = sym c.referenced_continuation.ensures ∙ ap option_copied c.in-Some-referenced_continuation.is
 
   continued_valid : AllByRecursion (Valid (md g last_found)) c.in-Some-referenced_continuation.continued.now.params × AllByRecursion (Valid (md g last_found)) c.in-Some-referenced_continuation.continued.now.results
-  continued_valid = referenced_valid (cx g last_found) (g.met.R.WasmModuleResources.lawful c.args.body.now.resources.now) c.in-Some.last.now _ last_continues
+  continued_valid = referenced_valid (cx g last_found) (g.met.R.WasmModuleResources.lawful c.args.context.now.resources.now) c.in-Some.last.now _ last_continues
 
-continues_as_told : (g : Over) (c : After-is_func_subtype-2 g) → continues (g.R.WasmModuleResources.context c.args.body.now.resources.now) c.args.resumed.now c.in_ok-tag_type.tag_type.now (referenced_continuation (g.R.WasmModuleResources.context c.args.body.now.resources.now) c.in-Some.last.now) ≡ c.is_func_subtype-2.result
+continues_as_told : (g : Over) (c : After-is_func_subtype-2 g) → continues (g.R.WasmModuleResources.context c.args.context.now.resources.now) c.args.resumed.now c.in_ok-tag_type.tag_type.now (referenced_continuation (g.R.WasmModuleResources.context c.args.context.now.resources.now) c.in-Some.last.now) ≡ c.is_func_subtype-2.result
 continues_as_told g c =
-    ap (continues (g.R.WasmModuleResources.context c.args.body.now.resources.now) c.args.resumed.now c.in_ok-tag_type.tag_type.now) (last_continues g (goal.at.After-is_func_subtype-2 g c).In-Some-referenced_continuation)
+    ap (continues (g.R.WasmModuleResources.context c.args.context.now.resources.now) c.args.resumed.now c.in_ok-tag_type.tag_type.now) (last_continues g (goal.at.After-is_func_subtype-2 g c).In-Some-referenced_continuation)
     ∙ (rw (sym c.results.ensures, sym c.results-2.ensures, sym c.params-params.ensures, sym c.results-results.ensures) (sym c.is_func_subtype-2.ensures))
 
 pub returns-in_err-block_type-clause-refused : goal.returns-in_err-block_type-clause-refused
@@ -105,7 +105,7 @@ returns-in_default-clause-refused g c =
 
 pub returns-then-not-is_concrete_reference-clause-refused : goal.returns-then-not-is_concrete_reference-clause-refused
 returns-then-not-is_concrete_reference-clause-refused g c =
-    refused_at_no_continuation g (goal.at.returns-then-not-is_concrete_reference-clause-refused g c).In-Some (c.is_concrete_reference.ensures (g.R.WasmModuleResources.context c.args.body.now.resources.now) c.if-not-is_concrete_reference.true)
+    refused_at_no_continuation g (goal.at.returns-then-not-is_concrete_reference-clause-refused g c).In-Some (c.is_concrete_reference.ensures (g.R.WasmModuleResources.context c.args.context.now.resources.now) c.if-not-is_concrete_reference.true)
 
 pub is_func_subtype-requires-clause-p1 : goal.is_func_subtype-requires-clause-p1
 is_func_subtype-requires-clause-p1 g c = (others_and_last_valid g (goal.at.is_func_subtype-requires-clause-p1 g c).In-Some).0
@@ -126,11 +126,11 @@ returns-in_default-referenced_continuation-clause-refused g c =
 
 pub is_func_subtype-requires-2-clause-p2 : goal.is_func_subtype-requires-2-clause-p2
 is_func_subtype-requires-2-clause-p2 g c =
-    subst (AllByRecursion (Valid (g.R.WasmModuleResources.context c.args.body.now.resources.now))) (sym c.params-params.ensures) (continued_valid g (goal.at.is_func_subtype-requires-2-clause-p2 g c).In-Some-referenced_continuation).0
+    subst (AllByRecursion (Valid (g.R.WasmModuleResources.context c.args.context.now.resources.now))) (sym c.params-params.ensures) (continued_valid g (goal.at.is_func_subtype-requires-2-clause-p2 g c).In-Some-referenced_continuation).0
 
 pub is_func_subtype-requires-2-clause-r2 : goal.is_func_subtype-requires-2-clause-r2
 is_func_subtype-requires-2-clause-r2 g c =
-    subst (AllByRecursion (Valid (g.R.WasmModuleResources.context c.args.body.now.resources.now))) (sym c.results-results.ensures) (continued_valid g (goal.at.is_func_subtype-requires-2-clause-r2 g c).In-Some-referenced_continuation).1
+    subst (AllByRecursion (Valid (g.R.WasmModuleResources.context c.args.context.now.resources.now))) (sym c.results-results.ensures) (continued_valid g (goal.at.is_func_subtype-requires-2-clause-r2 g c).In-Some-referenced_continuation).1
 
 pub returns-then-not-is_func_subtype-2-clause-refused : goal.returns-then-not-is_func_subtype-2-clause-refused
 returns-then-not-is_func_subtype-2-clause-refused g c =
@@ -140,7 +140,7 @@ returns-then-not-is_func_subtype-2-clause-refused g c =
 pub returns-clause-fits : goal.returns-clause-fits
 returns-clause-fits g c =
     let at = goal.at.returns-clause-fits g c in
-    let laws = g.met.R.WasmModuleResources.lawful c.args.body.now.resources.now in
+    let laws = g.met.R.WasmModuleResources.lawful c.args.context.now.resources.now in
     let last_below_itself = laws.reflexive c.in-Some.last.now (others_and_last_valid g at.In-Some).1 in
     let told = params_fit_others g at.After-is_func_subtype ∙ c.if-not-is_func_subtype.false in
     both_hold (cx g at.In_ok-tag_type) (hs g at.In_ok-tag_type) c.args.resumed.now _ _ c.args.label_index c.in_ok-tag_type.ensures.found _ _ (ends_in_last g at.In-Some) (continues_as_told g at.After-is_func_subtype-2 ∙ c.if-not-is_func_subtype-2.false)

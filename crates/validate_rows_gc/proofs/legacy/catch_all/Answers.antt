@@ -11,6 +11,6 @@ returns-in_err-popped g c =
 
 pub returns : goal.returns
 returns g c =
-    let md = g.R.WasmModuleResources.context c.args.body.resources.now in
-    begun_moves md _ _ c.args.body.stacks.now _ c.requires.open_frame (g.met.R.WasmModuleResources.lawful c.args.body.resources.now) c.requires.valid LegacyCatchAll c.in_ok-popped.block_type [] c.in_ok-popped.ensures.block tt
+    let md = g.R.WasmModuleResources.context c.args.context.resources.now in
+    begun_moves md _ _ c.args.context.stacks.now _ c.requires.open_frame (g.met.R.WasmModuleResources.lawful c.args.context.resources.now) c.requires.valid LegacyCatchAll c.in_ok-popped.block_type [] c.in_ok-popped.ensures.block tt
     (c.in_ok-popped.ensures.begins true) c.reopen_with.result c.reopen_with.ensures.told c.reopen_with.ensures.exact

@@ -11,8 +11,8 @@ use Rattle.validate_rows_gc.proofs.places.table_access_types.Goals as goal
 
 pub returns-clause-row : goal.returns-clause-row
 returns-clause-row g c =
-    let md = g.R.WasmModuleResources.context c.args.body.now.resources.now in
-    let cx = body_context md c.args.body.now.stacks.now.body in
+    let md = g.R.WasmModuleResources.context c.args.context.now.resources.now in
+    let cx = body_context md c.args.context.now.stacks.now.body in
     let table = c.in_ok-table.table in
     let held = held_by_table table in
     let access = Whole (Value c.args.access) in
@@ -23,5 +23,5 @@ returns-clause-row g c =
 
 pub returns-clause-valid : goal.returns-clause-valid
 returns-clause-valid g c =
-    let md = g.R.WasmModuleResources.context c.args.body.now.resources.now in
+    let md = g.R.WasmModuleResources.context c.args.context.now.resources.now in
     types_valid md (Whole (Value c.args.access)) (c.index_type.result ∷ []) (element_of_table c.in_ok-table.table) _ _ c.expected_by.ensures c.pushed_by.ensures (search rules) c.in_ok-table.ensures.element

@@ -10,20 +10,20 @@ use Rattle.validate_rows_gc.proofs.throws.rethrow.Given.{Over}
 use Rattle.validate_rows_gc.proofs.throws.rethrow.Goals.{Start, Then-not-is_catch_part}
 use Rattle.validate_rows_gc.proofs.throws.rethrow.Goals as goal
 
-refused_if_barred : (g : Over) (c : Start g) → (rethrow_row (heads c.args.body.stacks.now.body.present.frames) c.args.relative_depth).premise ≡ false → step_body (g.R.WasmModuleResources.context c.args.body.resources.now) (λ cx. staying_operator (λ hs. rethrow_row hs c.args.relative_depth)) c.args.body.stacks.now.body ≡ None
-refused_if_barred g c = barred (g.R.WasmModuleResources.context c.args.body.resources.now) c.args.body.stacks.now.body (λ cx hs. rethrow_row hs c.args.relative_depth)
+refused_if_barred : (g : Over) (c : Start g) → (rethrow_row (heads c.args.context.stacks.now.body.present.frames) c.args.relative_depth).premise ≡ false → step_body (g.R.WasmModuleResources.context c.args.context.resources.now) (λ cx. staying_operator (λ hs. rethrow_row hs c.args.relative_depth)) c.args.context.stacks.now.body ≡ None
+refused_if_barred g c = barred (g.R.WasmModuleResources.context c.args.context.resources.now) c.args.context.stacks.now.body (λ cx hs. rethrow_row hs c.args.relative_depth)
 
-barred_at_other_part : (g : Over) (c : Then-not-is_catch_part g) → (rethrow_row (heads c.args.body.stacks.now.body.present.frames) c.args.relative_depth).premise ≡ false
-barred_at_other_part g c = caught_there (heads c.args.body.stacks.now.body.present.frames) c.args.relative_depth _ c.in_ok-kind.kind c.in_ok-kind.ensures.found ∙ search rules
+barred_at_other_part : (g : Over) (c : Then-not-is_catch_part g) → (rethrow_row (heads c.args.context.stacks.now.body.present.frames) c.args.relative_depth).premise ≡ false
+barred_at_other_part g c = caught_there (heads c.args.context.stacks.now.body.present.frames) c.args.relative_depth _ c.in_ok-kind.kind c.in_ok-kind.ensures.found ∙ search rules
 
 pub returns-in_err-kind-clause-row : goal.returns-in_err-kind-clause-row
 returns-in_err-kind-clause-row g c =
-    let none = caught_none (heads c.args.body.stacks.now.body.present.frames) c.args.relative_depth in
-    moves_barred _ _ c.args.body.stacks.now (λ cx hs. rethrow_row hs c.args.relative_depth) _ (search rules) (search (rules, none))
+    let none = caught_none (heads c.args.context.stacks.now.body.present.frames) c.args.relative_depth in
+    moves_barred _ _ c.args.context.stacks.now (λ cx hs. rethrow_row hs c.args.relative_depth) _ (search rules) (search (rules, none))
 
 pub returns-in_err-kind-clause-idle : goal.returns-in_err-kind-clause-idle
 returns-in_err-kind-clause-idle g c =
-    search (rules, refused_if_barred g (goal.at.returns-in_err-kind-clause-idle g c).Start (caught_none (heads c.args.body.stacks.now.body.present.frames) c.args.relative_depth c.in_err-kind.ensures.missing))
+    search (rules, refused_if_barred g (goal.at.returns-in_err-kind-clause-idle g c).Start (caught_none (heads c.args.context.stacks.now.body.present.frames) c.args.relative_depth c.in_err-kind.ensures.missing))
 
 pub returns-then-not-is_catch_part-clause-row : goal.returns-then-not-is_catch_part-clause-row
 returns-then-not-is_catch_part-clause-row g c =
@@ -38,5 +38,5 @@ returns-then-not-is_catch_part-clause-idle g c =
 
 pub returns-clause-row : goal.returns-clause-row
 returns-clause-row g c =
-    let caught = caught_there (heads c.args.body.stacks.now.body.present.frames) c.args.relative_depth _ c.in_ok-kind.kind c.in_ok-kind.ensures.found ∙ search rules in
-    moves_found _ _ c.args.body.stacks.now (λ cx hs. rethrow_row hs c.args.relative_depth) _ (λ cx hs. ending_row []) _ (ap (λ b. ending_row_if b []) caught) c.ending.ensures.row
+    let caught = caught_there (heads c.args.context.stacks.now.body.present.frames) c.args.relative_depth _ c.in_ok-kind.kind c.in_ok-kind.ensures.found ∙ search rules in
+    moves_found _ _ c.args.context.stacks.now (λ cx hs. rethrow_row hs c.args.relative_depth) _ (λ cx hs. ending_row []) _ (ap (λ b. ending_row_if b []) caught) c.ending.ensures.row

@@ -8,7 +8,8 @@ use Rattle.validate_types.specs.declared.refs.RefType.{RefType}
 use Rattle.validate_types.specs.declared.types.ValType.{ValType}
 use Rattle.validate_types.specs.declared.types.ValType.TheVariants.{Ref}
 use Rattle.validation_rules.specs.Fits.{MaybeType, fits}
-use Rattle.validate_stacks.specs.Pops.{IsKnownAs, IsToSame, may_pop}
+use Rattle.validate_types.specs.KnownAs.{IsKnownAs, IsToSame}
+use Rattle.validate_stacks.specs.Pops.{may_pop}
 use Rattle.validate_stacks.specs.State.{BodyState, body_context}
 
 module _ (md : ModuleContext) (laws : IsLawful md) where

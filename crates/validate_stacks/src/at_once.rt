@@ -18,7 +18,7 @@ use crate::blocks::params;
 use crate::pops::is_same_number;
 use crate::stacks::Stacks;
 use validate_resources::WasmModuleResources;
-use validate_types::{LocalType, MaybeType, Operand, ValType};
+use validate_types::{LocalType, Operand, ValType};
 use validate_visit::{BlockType, FrameKind};
 
 impl Stacks {
@@ -46,10 +46,7 @@ impl Stacks {
             return false;
         }
         if !self.has_own(count) {
-            return match pushed {
-                Some(ty) => self.push_in_dead_code(ty),
-                None => false,
-            };
+            return self.exchange_in_dead_code(resources, expected, pushed);
         }
         if !self.has_same_numbers(resources, expected) {
             return false;
@@ -69,8 +66,8 @@ impl Stacks {
 
     /// The fast lane of [`OperatorContext::exchange_types`] for types that are known, of which some are expected, where
     /// no attempt is pending. The innermost frame has as many own operands, known to be of these types, be it
-    /// that a reference is exact in its type or without null. False, with nothing changed, where that isn't
-    /// so. It makes no call.
+    /// that a reference is exact in its type or without null, or is dead and has none. False, with nothing
+    /// changed, where that isn't so. In live code it makes no call.
     #[inline(always)]
     pub fn exchange_known_at_once<R: WasmModuleResources>(
         &mut self,
@@ -91,7 +88,7 @@ impl Stacks {
             return false;
         }
         if !self.has_own(count) {
-            return false;
+            return self.exchange_in_dead_code(resources, expected, pushed);
         }
         if !self.has_known(resources, expected) {
             return false;
@@ -163,9 +160,31 @@ impl Stacks {
         true
     }
 
-    /// The fast lane of [`OperatorContext::exchange_types`] in dead code: pushes an operand of this type, where the
-    /// innermost frame is dead, has no own operands, and there is room. Whatever is expected is found there.
-    /// False, with nothing changed, where that isn't so.
+    /// The fast lane of [`OperatorContext::exchange_types`] in dead code, where an operand is given: the innermost
+    /// frame has no own operands, and there is room. Whatever is expected is found there. False, with nothing
+    /// changed, where that isn't so.
+    #[inline(always)]
+    fn exchange_in_dead_code<R: WasmModuleResources>(
+        &mut self,
+        resources: &R,
+        expected: &[ValType],
+        pushed: Option<ValType>,
+    ) -> bool
+        ensures exact { MatchBool result
+            (option_map (body_pushed_each (pushed_list pushed))
+            (body_popped_each (R.context resources.now) (reverse expected.now) self.old.body) ≡ Some self.new.body)
+            (self.new ≡ self.old) }
+        ensures phase { phase_moved self.new.phase ≡ phase_moved self.old.phase }
+    {
+        // The contract alone reads them.
+        let (_resources, _expected) = (resources, expected);
+        match pushed {
+            Some(ty) => self.push_in_dead_code(ty),
+            None => false,
+        }
+    }
+
+    /// [`Stacks::exchange_in_dead_code`] where an operand of this type is given.
     #[inline(never)]
     fn push_in_dead_code(&mut self, ty: ValType) -> bool
         ensures exact { MatchBool result (self.new.body ≡ body_pushed (Known ty) self.old.body)
@@ -177,9 +196,9 @@ impl Stacks {
         if self.own_operand_count() > 0 {
             return false;
         }
-        match self.type_found(0) {
-            Some(MaybeType::Bottom) => self.push_at_once(Operand::known(ty)),
-            _ => false,
+        match self.operand_found(0) {
+            Some(found) => found.is_bottom() && self.push_at_once(Operand::known(ty)),
+            None => false,
         }
     }
 

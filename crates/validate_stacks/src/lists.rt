@@ -10,7 +10,7 @@ ghost use Rattle.validate_stacks.specs.State.{IsValidBody, body_context};
 ghost use Rattle.validate_stacks.specs.Pops.{body_pushed_each, has_operands_fitting, may_pop};
 ghost use Rattle.validate_stacks.specs.Steps.{innermost_operands, found_after_pops_in_body};
 
-use crate::pops::{fits_at_once, is_known_as};
+use crate::pops::fits_at_once;
 use crate::stacks::Stacks;
 use validate_resources::WasmModuleResources;
 use validate_types::ValType;
@@ -89,7 +89,7 @@ impl Stacks {
         // The contract alone reads it.
         let _resources = resources;
         match self.own_operand(depth) {
-            Some(operand) => is_known_as(operand.ty(), *expected),
+            Some(operand) => operand.is_known_as(*expected),
             None => false,
         }
     }
@@ -168,6 +168,10 @@ impl Stacks {
         ensures { result ≡ may_pop (body_context (R.context resources.now) self.now.body)
             (found_after_pops_in_body depth self.now.body) (Some expected.now) }
     {
-        self.is_fitting(resources, self.type_found(depth), *expected)
+        let Some(found) = self.operand_found(depth) else {
+            return false;
+        };
+        // Most references are of the very type: then no look-up is asked.
+        found.is_known_as(*expected) || self.is_fitting(resources, found.ty(), *expected)
     }
 }

@@ -8,13 +8,11 @@ ghost use Rattle.validation_rules.specs.Fits.{Known, UnknownRef, fits};
 ghost use Rattle.validation_rules.specs.Valid.{IsValidOperand};
 ghost use Rattle.validate_stacks.specs.State.{body_context};
 ghost use Rattle.validate_stacks.specs.Names.{place_of, type_name};
-ghost use Rattle.validate_stacks.specs.Pops.{may_pop, FitsAtOnce, IsKnownAs, IsToSame};
+ghost use Rattle.validate_stacks.specs.Pops.{may_pop, FitsAtOnce};
 
 use crate::stacks::Stacks;
 use validate_resources::WasmModuleResources;
-use validate_types::{
-    AbstractHeapType, HeapType, MaybeType, Operand, RefType, UnpackedIndex, ValType,
-};
+use validate_types::{AbstractHeapType, HeapType, MaybeType, Operand, RefType, ValType};
 
 /// The name of a type in a refusal (wasmparser's `ty_to_str`).
 pub fn ty_to_str(ty: ValType) -> &'static str
@@ -65,53 +63,6 @@ pub(crate) fn is_same_number(found: ValType, expected: ValType) -> bool
     place < 5 && place_of(found) == place
 }
 
-/// The fast lane of [`Stacks::is_fitting`] for a known operand: whether it is known to be of this type, be it
-/// that a reference is exact in its type or without null.
-#[inline(always)]
-pub(crate) fn is_known_as(found: MaybeType, expected: ValType) -> bool
-    ensures { result ≡ true → IsKnownAs found expected }
-{
-    match (found, expected) {
-        (MaybeType::Known(ValType::Ref(found)), ValType::Ref(expected)) => {
-            (expected.nullable || !found.nullable)
-                && is_to_same(found.heap_type, expected.heap_type)
-        }
-        (MaybeType::Known(found), _) => is_same_number(found, expected),
-        _ => false,
-    }
-}
-
-/// The fast lane of [`Stacks::is_fitting`] asks this of heap types: whether it is the expected type, or exact
-/// in that.
-#[inline(always)]
-fn is_to_same(found: HeapType, expected: HeapType) -> bool
-    ensures { result ≡ true → IsToSame found expected }
-{
-    match (found, expected) {
-        (HeapType::Concrete(found) | HeapType::Exact(found), HeapType::Concrete(expected))
-        | (HeapType::Exact(found), HeapType::Exact(expected)) => is_same_id(found, expected),
-        (
-            HeapType::Abstract {
-                shared: found_shared,
-                ty: found,
-            },
-            HeapType::Abstract { shared, ty },
-        ) => found_shared == shared && found == ty,
-        _ => false,
-    }
-}
-
-/// The fast lane of [`UnpackedIndex::eq`]: whether this is twice the same id.
-#[inline(always)]
-fn is_same_id(found: UnpackedIndex, expected: UnpackedIndex) -> bool
-    ensures { result ≡ true → found ≡ expected }
-{
-    match (found, expected) {
-        (UnpackedIndex::Id(found), UnpackedIndex::Id(expected)) => found.index == expected.index,
-        _ => false,
-    }
-}
-
 /// The fast lane of [`ValType::eq`] compares these: the place of a number or vector type among them, from 0;
 /// 5 for every reference.
 #[inline(always)]
@@ -129,21 +80,20 @@ fn place_of(ty: ValType) -> u8
 }
 
 impl Stacks {
-    /// Whether an operand was found that fits the expected type, by the order of types.
+    /// Whether this operand fits the expected type, by the order of types.
     #[inline(always)]
     pub(crate) fn is_fitting<R: WasmModuleResources>(
         &self,
         resources: &R,
-        found: Option<MaybeType>,
+        found: MaybeType,
         expected: ValType,
     ) -> bool
         requires expected { Valid (R.context resources.now) expected }
-        requires found { ForSome found (IsValidOperand (R.context resources.now)) }
-        ensures { result ≡ may_pop (body_context (R.context resources.now) self.now.body) found
+        requires found { IsValidOperand (R.context resources.now) found }
+        ensures { result ≡ may_pop (body_context (R.context resources.now) self.now.body) (Some found)
             (Some expected) }
     {
-        let Some(actual) = found else { return false };
-        match actual {
+        match found {
             MaybeType::Bottom => true,
             MaybeType::UnknownRef(ty) => self.is_unknown_fitting(resources, ty, expected),
             MaybeType::Known(ty) => resources.is_subtype(ty, expected),

@@ -44,6 +44,20 @@ fn operands_in_eight_bytes(rt: HostRuntime) {
     }
 }
 
+/// No clause says that what is known at once is ever known.
+#[test]
+fn references_known_at_once(rt: HostRuntime) {
+    let nullable = Operand::known(ValType::EXNREF);
+    let non_null = Operand::known(ValType::Ref(RefType::EXN));
+    expect(&rt, nullable.is_known_as(ValType::EXNREF));
+    expect(&rt, non_null.is_known_as(ValType::EXNREF));
+    expect(&rt, !nullable.is_known_as(ValType::Ref(RefType::EXN)));
+    expect(&rt, !nullable.is_known_as(ValType::FUNCREF));
+    let number = Operand::known(ValType::F32);
+    expect(&rt, number.is_known_as(ValType::F32));
+    expect(&rt, !number.is_known_as(ValType::EXNREF));
+}
+
 #[test]
 fn locals_in_eight_bytes(rt: HostRuntime) {
     expect_same(&rt, size_of::<LocalType>(), 8);

@@ -88,6 +88,15 @@ place_of IsF64 = 3
 place_of IsV128 = 4
 place_of _ = 5
 
+-- the same of a type
+abbrev pub type_place : ValType → ℕ
+type_place I32 = 0
+type_place I64 = 1
+type_place F32 = 2
+type_place F64 = 3
+type_place V128 = 4
+type_place (Ref _) = 5
+
 -- the type of a local, all of whose type is known
 abbrev pub type_known : MaybeType ValType → ValType
 type_known (Known ty) = ty

@@ -1,7 +1,8 @@
 //! Operands and locals in eight bytes: what a stack of operands and a list of locals hold.
 
 ghost use Rattle.std.specs.Prelude.{◌≡◌, true, false};
-ghost use Rattle.validate_types.specs.Operands.{is_indexed, kind_type, place_of};
+ghost use Rattle.validate_types.specs.KnownAs.{IsKnownAs, IsReferenceAs};
+ghost use Rattle.validate_types.specs.Operands.{is_indexed, kind_type, place_of, type_place};
 ghost use Rattle.validate_types.specs.declared.heap.AbstractHeapType.TheVariants.{Any};
 ghost use Rattle.validate_types.specs.declared.types.MaybeType.TheVariants.{Known};
 ghost use Rattle.validate_types.specs.declared.types.ValType.TheVariants.{Ref};
@@ -96,7 +97,6 @@ fn indexed(kind: OperandKind, nullable: bool, index: u32) -> Operand
 }
 
 /// An operand that is this reference.
-#[inline(never)]
 fn reference(ty: RefType) -> Operand
     ensures { result ≡ Known (Ref ty) }
 {
@@ -148,6 +148,21 @@ fn place_of(kind: OperandKind) -> u8
         OperandKind::F64 => 3,
         OperandKind::V128 => 4,
         _ => 5,
+    }
+}
+
+/// The place of a number type or the vector type among these, or 5.
+#[inline(always)]
+fn type_place(ty: ValType) -> u8
+    ensures { result ≡ type_place ty }
+{
+    match ty {
+        ValType::I32 => 0,
+        ValType::I64 => 1,
+        ValType::F32 => 2,
+        ValType::F64 => 3,
+        ValType::V128 => 4,
+        ValType::Ref(_) => 5,
     }
 }
 
@@ -237,14 +252,8 @@ impl Operand {
     pub fn is_number(&self, ty: ValType) -> bool
         ensures { result ≡ true → self.now ≡ Known ty }
     {
-        match (self.kind, ty) {
-            (OperandKind::I32, ValType::I32) => true,
-            (OperandKind::I64, ValType::I64) => true,
-            (OperandKind::F32, ValType::F32) => true,
-            (OperandKind::F64, ValType::F64) => true,
-            (OperandKind::V128, ValType::V128) => true,
-            _ => false,
-        }
+        let place = type_place(ty);
+        place < 5 && place == place_of(self.kind)
     }
 
     /// The fast lane of a comparison of types: whether both are of one number type, or of the vector type. False of
@@ -255,6 +264,38 @@ impl Operand {
     {
         let place = place_of(self.kind);
         place < 5 && place == place_of(other.kind)
+    }
+
+    /// The fast lane of an order of types: whether the operand is known to be of this type, be it that a reference is
+    /// exact in its type or without null. False of a type of the module that is named by its index.
+    #[inline(always)]
+    pub fn is_known_as(&self, expected: ValType) -> bool
+        ensures { result ≡ true → IsKnownAs self.now expected }
+    {
+        match expected {
+            ValType::Ref(expected) => self.is_reference_as(expected),
+            _ => self.is_number(expected),
+        }
+    }
+
+    /// The fast lane of [`Operand::is_known_as`] for references.
+    #[inline(always)]
+    fn is_reference_as(&self, expected: RefType) -> bool
+        ensures { result ≡ true → IsReferenceAs self.now (Ref expected) }
+    {
+        if self.nullable && !expected.nullable {
+            return false;
+        }
+        match (self.kind, expected.heap_type) {
+            (OperandKind::Abstract, HeapType::Abstract { shared, ty }) => {
+                self.shared == shared && self.ty == ty
+            }
+            (OperandKind::Id | OperandKind::ExactId, HeapType::Concrete(UnpackedIndex::Id(id)))
+            | (OperandKind::ExactId, HeapType::Exact(UnpackedIndex::Id(id))) => {
+                self.index == id.index
+            }
+            _ => false,
+        }
     }
 }
 

@@ -1,37 +1,34 @@
 -- Names that differ, one more at a time, and a set that holds them.
 use Rattle.std.proofs.Common.{◌≡◌, ◌∙◌, ℕ, Bool, true, false, ◌&&◌, ◌||◌, not, cond, List, [], ◌∷◌, ◌++◌}
-use Rattle.std.proofs.Common.{map, take, drop, Bor, refl, ap, sym, arith, ◌==◌}
+use Rattle.std.proofs.Common.{map, take, drop, Bor, refl, ap, sym, arith, nat_eq, ◌<◌}
 use Rattle.std.specs.BTreeSet.{BTreeSet, contains, Updates}
 use Rattle.std.specs.Cmp.Lexicographic.{slice_cmp}
-use Rattle.std.specs.List.{list_any}
-use Rattle.std.specs.Ordering.{nat_cmp, ordering_then, is_eq}
+use Rattle.std.specs.List.{list_any, AllByRecursion, IsDistinct}
+use Rattle.std.specs.List.Sorted.{IsPermutation, IsStrictlyIncreasing}
+use Rattle.std.specs.Cmp.{nat_eq_equiv}
+use Rattle.std.specs.Ordering.{nat_cmp}
 use Rattle.std.specs.Str.{bytes_eq}
 use Rattle.std.specs.declared.cmp.Ordering.{Ordering}
-use Rattle.std.specs.declared.cmp.Ordering.TheVariants.{Less, Equal, Greater}
-use Rattle.std.proofs.lemmas.Bool.{le-ltb, eq-eqb, and_parts, and_from, not_from_false, false_from_ne_true}
+use Rattle.std.proofs.lemmas.Bool.{eq-eqb, eqb-true, and_parts, and_from, not_from_false, false_from_ne_true}
 use Rattle.std.proofs.lemmas.Cmp.{nat_list_eq_equiv}
 use Rattle.std.proofs.lemmas.List.{map-append, take-append-drop}
 use Rattle.std.proofs.lemmas.List.Folds.{list_any-append}
+use Rattle.std.proofs.lemmas.List.Kept.{AllPairs-from_increasing}
+use Rattle.std.proofs.lemmas.List.Sorted.{IsPermutation-sym}
+use Rattle.std.proofs.lemmas.Map.Keys.{IsDistinct-IsPermutation, IsDistinct-from_apart, IsDistinct-head, IsDistinct-tail}
 use Rattle.std.proofs.lemmas.Map.Text.{is_eq-slice_cmp}
 use Rattle.std.proofs.lemmas.Slice.Eq.{bytes_eq-Decides}
 use Rattle.module_rules.specs.Exported.{Exported}
-use Rattle.module_rules.specs.Exports.{are_distinct}
+use Rattle.module_rules.specs.Exports.{are_distinct, names_of}
 use Rattle.module_rules.specs.Names.{mix_name}
 
-abbrev pub names_of : List Exported → List (List ℕ)
-names_of es = map (λ (e : Exported). e.name) es
-
--- a name behind the number that is mixed from it
-abbrev pub keyed : Bor (List ℕ) → ℕ × Bor (List ℕ)
-keyed name = (mix_name name.now, name)
-
--- the order of names: by their numbers, then by their texts
-abbrev pub key_order : ℕ × Bor (List ℕ) → ℕ × Bor (List ℕ) → Ordering
-key_order x y = ordering_then (nat_cmp x.0 y.0) (slice_cmp nat_cmp x.1.now y.1.now)
+-- the order of names, by their texts
+abbrev pub name_order : Bor (List ℕ) → Bor (List ℕ) → Ordering
+name_order x y = slice_cmp nat_cmp x.now y.now
 
 -- the set holds these names, and no others
-abbrev pub Holds : BTreeSet (ℕ × Bor (List ℕ)) → List (List ℕ) → Type 0
-Holds s names = (q : Bor (List ℕ)) → contains key_order s (keyed q) ≡ list_any (bytes_eq q.now) names
+abbrev pub Holds : BTreeSet (Bor (List ℕ)) → List (List ℕ) → Type 0
+Holds s names = (q : Bor (List ℕ)) → contains name_order s q ≡ list_any (bytes_eq q.now) names
 
 flips : (x y : List ℕ) → bytes_eq x y ≡ bytes_eq y x
 flips x y = nat_list_eq_equiv.symm x y
@@ -50,34 +47,13 @@ any-push q name names =
     ∙ chosen (list_any (bytes_eq q) names) (bytes_eq q name)
     ∙ sym (list_any-append (bytes_eq q) names (name ∷ []))
 
-level : (n : ℕ) → nat_cmp n n ≡ Equal
-level n =
-    ap (λ b. cond b Less (cond (n == n) Equal Greater)) (le-ltb n n (omega arith))
-    ∙ ap (λ b. cond b Equal Greater) (eq-eqb n n refl)
-
-unlike : (k r : Ordering) → is_eq r ≡ false → is_eq (ordering_then k r) ≡ false
-unlike Less r h = refl
-unlike Equal r h = h
-unlike Greater r h = refl
-
--- names are equal in this order exactly if they are
-same-name : (x y : Bor (List ℕ)) → is_eq (key_order (keyed x) (keyed y)) ≡ bytes_eq x.now y.now
-same-name x y = cases (bytes_eq x.now y.now) refl
-  where
-    alike : x.now ≡ y.now → is_eq (key_order (keyed x) (keyed y)) ≡ is_eq (slice_cmp nat_cmp x.now y.now)
-    alike e = ap (λ k. is_eq (ordering_then k (slice_cmp nat_cmp x.now y.now))) (ap (λ (n : List ℕ). nat_cmp (mix_name x.now) (mix_name n)) (sym e) ∙ level (mix_name x.now))
-
-    cases : (b : Bool) → bytes_eq x.now y.now ≡ b → is_eq (key_order (keyed x) (keyed y)) ≡ bytes_eq x.now y.now
-    cases true e = alike ((bytes_eq-Decides x.now y.now).0 e) ∙ is_eq-slice_cmp x.now y.now
-    cases false e = unlike (nat_cmp (mix_name x.now) (mix_name y.now)) (slice_cmp nat_cmp x.now y.now) (is_eq-slice_cmp x.now y.now ∙ e) ∙ sym e
-
 -- a name is put into the set
-pub holds-push : (s n : BTreeSet (ℕ × Bor (List ℕ))) (key : Bor (List ℕ)) (names : List (List ℕ)) → Holds s names → Updates key_order s n (keyed key) true → Holds n (names ++ key.now ∷ [])
-holds-push s n key names h u = λ q.
-    u.0 (keyed q)
-    ∙ ap (λ b. cond b true (contains key_order s (keyed q))) (same-name key q)
-    ∙ ap (cond (bytes_eq key.now q.now) true) (h q)
-    ∙ any-push q.now key.now names
+pub holds-push : (s n : BTreeSet (Bor (List ℕ))) (name : Bor (List ℕ)) (names : List (List ℕ)) → Holds s names → Updates name_order s n name true → Holds n (names ++ name.now ∷ [])
+holds-push s n name names h u = λ q.
+    u.0 q
+    ∙ ap (λ b. cond b true (contains name_order s q)) (is_eq-slice_cmp name.now q.now)
+    ∙ ap (cond (bytes_eq name.now q.now) true) (h q)
+    ∙ any-push q.now name.now names
 
 -- ---- names that differ
 
@@ -126,3 +102,37 @@ distinct-old xs y n = distinct-push xs y ∙ ap (λ b. are_distinct xs && not b)
     none : (b : Bool) → (b && false) ≡ false
     none true = refl
     none false = refl
+
+-- ---- numbers that differ
+
+unequal : (x y : ℕ) → x < y → nat_eq x y ≡ false
+unequal x y less = false_from_ne_true (nat_eq x y) (λ e. let same : x ≡ y = eqb-true x y e in omega (arith, less, same))
+
+pub unlike-increasing : (ns : List ℕ) → IsStrictlyIncreasing ns → IsDistinct nat_eq ns
+unlike-increasing ns h = IsDistinct-from_apart nat_eq ns (λ i j d p q. unequal _ _ (AllPairs-from_increasing ns h i j d p q))
+
+flipped : (x y : ℕ) → nat_eq x y ≡ nat_eq y x
+flipped x y = nat_eq_equiv.symm x y
+
+pub unlike-before : (ns ms : List ℕ) → IsPermutation ns ms → IsStrictlyIncreasing ms → IsDistinct nat_eq ns
+unlike-before ns ms p h = IsDistinct-IsPermutation nat_eq flipped ms ns (IsPermutation-sym ns ms p) (unlike-increasing ms h)
+
+-- the number that is mixed from its name
+abbrev mixed : Exported → ℕ
+mixed e = mix_name e.name
+
+unlike_names : (x y : List ℕ) → nat_eq (mix_name x) (mix_name y) ≡ false → bytes_eq x y ≡ false
+unlike_names x y h = false_from_ne_true (bytes_eq x y) (λ e. let one : nat_eq (mix_name x) (mix_name y) ≡ true = eq-eqb _ _ (ap mix_name ((bytes_eq-Decides x y).0 e)) in
+    let both : true ≡ false = sym one ∙ h in
+    cc)
+
+neither : (a b : Bool) → a ≡ false → b ≡ false → (a || b) ≡ false
+neither a b h k = ap (λ x. x || b) h ∙ k
+
+absent : (name : List ℕ) (es : List Exported) → AllByRecursion (λ n. nat_eq (mix_name name) n ≡ false) (map mixed es) → list_any (bytes_eq name) (names_of es) ≡ false
+absent name [] h = refl
+absent name (e ∷ es) h = neither _ _ (unlike_names name e.name h.0) (absent name es h.1)
+
+pub distinct-mixed : (es : List Exported) → IsDistinct nat_eq (map mixed es) → are_distinct (names_of es) ≡ true
+distinct-mixed [] d = refl
+distinct-mixed (e ∷ es) d = and_from _ _ (not_from_false _ (absent e.name es (IsDistinct-head nat_eq (mixed e) (map mixed es) d))) (distinct-mixed es (IsDistinct-tail nat_eq (mixed e) (map mixed es) d))

@@ -37,7 +37,10 @@ abbrev pub are_distinct : List (List ℕ) → Bool
 are_distinct [] = true
 are_distinct (name ∷ names) = not (list_any (bytes_eq name) names) && are_distinct names
 
+abbrev pub names_of : List Exported → List (List ℕ)
+names_of exports = map (λ (e : Exported). e.name) exports
+
 abbrev pub are_valid_exports : ModuleFeatures → Declarations → Bool
 are_valid_exports features d =
     list_all (is_valid_export features d) d.exports
-    && are_distinct (map (λ (e : Exported). e.name) d.exports)
+    && are_distinct (names_of d.exports)

@@ -101,7 +101,10 @@ fn referenced_functions(alloc: Global, declared: &DeclaredModule) -> Result<Vec<
 }
 
 /// What an iterator yields, in a list that takes its room once. (Where `collect` is refused its room, it asks for less.)
-fn listed<T: Drop, I: Iterator<Item = T>>(alloc: Global, items: I) -> Result<Vec<T>, OutOfMemory>
+pub(crate) fn listed<T: Drop, I: Iterator<Item = T>>(
+    alloc: Global,
+    items: I,
+) -> Result<Vec<T>, OutOfMemory>
     requires can { I.can_next items }
     requires finite { IsFinite (I.remaining items) }
     ensures { IfOk result (λ v. (xs : List T) × Drains I.next_gives items xs × (v.items ≡ xs)) }

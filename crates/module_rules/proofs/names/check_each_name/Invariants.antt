@@ -1,7 +1,7 @@
 use Rattle.std.proofs.Common.{◌≡◌, true, take}
-use Rattle.module_rules.specs.Exports.{are_distinct}
-use Rattle.module_rules.proofs.Distinct.{names_of, Holds}
-use Rattle.module_rules.proofs.names.check_names.Given as goal
+use Rattle.module_rules.specs.Exports.{are_distinct, names_of}
+use Rattle.module_rules.proofs.Distinct.{Holds}
+use Rattle.module_rules.proofs.names.check_each_name.Given as goal
 
 abbrev pub invariant-loop-export : goal.invariant-loop-export
 invariant-loop-export l = record {

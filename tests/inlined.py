@@ -24,6 +24,7 @@ CHOICES = (
 TURNS = (
     "common_turn",
     "turn_of_constant",
+    "turn_of_index",
     "turn_of_load",
     "turn_of_store",
     "turn_with",
@@ -39,6 +40,7 @@ INLINED = CHOICES + (
     "push_operand",
     "exchange_numbers_at_once",
     "exchange_known_at_once",
+    "exchange_operands",
 )
 # It is called: where it has no name, functions have no names.
 CALLED = "expect_by_call"

@@ -54,7 +54,7 @@ fn start_with_locals(
     }
 }
 
-/// The validator with the locals that code begins with.
+/// Reads the locals that a body begins with, and defines them in its validator, which it hands back.
 fn with_locals(
     resources: &ModuleLists,
     code: &mut CodeReader<'_>,

@@ -143,7 +143,7 @@ fn no_type(fault: Fault, offset: u64) -> Verdict
     Verdict::of_read_error(ReadError::malformed(fault, offset))
 }
 
-/// Begins a constant expression over a module, if its type is one.
+/// Begins a constant expression over a module, of the type that is handed in, if that is a value type.
 fn begin_shown(
     alloc: Global,
     shared: SharedModule,

@@ -38,7 +38,7 @@ use Rattle.validation_rules.specs.Context.{Context}
 use Rattle.validation_rules.specs.Operators.{operator as row_of}
 use Rattle.module_check.specs.FirstBytes.{kinds, near, BeginAs, BeginLike, BeginAccess, EndsNear, IsNear}
 use Rattle.module_check.specs.declared.first_bytes.Common.{Common}
-use Rattle.module_check.specs.declared.first_bytes.Common.TheVariants.{Rare, Nop, Block, Loop, If, End, Br, BrIf, Return, Call, Drop, Select, LocalGet, LocalSet, LocalTee, GlobalGet, GlobalSet, Constant32, Constant64, Test32, Compare32, Compare64, Binary32, Binary64, BinaryF32, BinaryF64, Load32, Load64, LoadF32, LoadF64, Store32, Store64, StoreF32, StoreF64}
+use Rattle.module_check.specs.declared.first_bytes.Common.TheVariants.{Rare, Nop, Block, Loop, If, End, Indexed, Return, Drop, Select, LocalGet, LocalSet, LocalTee, Constant32, Constant64, Test32, Compare32, Compare64, Binary32, Binary64, BinaryF32, BinaryF64, Load32, Load64, LoadF32, LoadF64, Store32, Store64, StoreF32, StoreF64}
 
 -- whether a byte of this form, with this operator on numbers, is of the kind
 abbrev pub is_test32 : Option Form → Option NumericOp → Bool
@@ -68,6 +68,14 @@ is_binary_f32 _ _ = false
 abbrev pub is_binary_f64 : Option Form → Option NumericOp → Bool
 is_binary_f64 (Some OfNumeric) (Some (FloatBinary R64 _)) = true
 is_binary_f64 _ _ = false
+
+abbrev pub is_indexed : Option Form → Bool
+is_indexed (Some OfIndex) = true
+is_indexed _ = false
+
+indexed_form : (form : Option Form) → is_indexed form ≡ true → form ≡ Some OfIndex
+indexed_form (Some OfIndex) e = refl
+indexed_form _ e = absurd (clash e)
 
 -- the codes of loads and stores of each type, with their natural alignments
 abbrev load32_codes : List (ℕ × ℕ)
@@ -109,17 +117,13 @@ is_common code Block = nat_eq code 0x02
 is_common code Loop = nat_eq code 0x03
 is_common code If = nat_eq code 0x04
 is_common code End = nat_eq code 0x0b
-is_common code Br = nat_eq code 0x0c
-is_common code BrIf = nat_eq code 0x0d
 is_common code Return = nat_eq code 0x0f
-is_common code Call = nat_eq code 0x10
+is_common code Indexed = is_indexed (from 0 forms code)
 is_common code Drop = nat_eq code 0x1a
 is_common code Select = nat_eq code 0x1b
 is_common code LocalGet = nat_eq code 0x20
 is_common code LocalSet = nat_eq code 0x21
 is_common code LocalTee = nat_eq code 0x22
-is_common code GlobalGet = nat_eq code 0x23
-is_common code GlobalSet = nat_eq code 0x24
 is_common code Constant32 = nat_eq code 0x41
 is_common code Constant64 = nat_eq code 0x42
 
@@ -518,28 +522,9 @@ module _ {bytes : List ℕ} {code next : ℕ} {rest behind : List ℕ} (two : Ar
     same_row = λ cx. refl;
   })))
 
-  begun : (c : ℕ) → from 0 forms c ≡ Some OfIndex → nat_eq code c ≡ true → (bytes ≡ c ∷ rest) × (from 0 forms c ≡ Some OfIndex)
-  begun c form e = (two.begins ∙ ap (λ n. n ∷ rest) (eqb-true code c e), form)
-
-  pub br_begun : Br ≡ get_or kinds code Rare → (bytes ≡ 0x0c ∷ rest) × (from 0 forms 0x0c ≡ Some OfIndex)
-  unfolding is_common forms
-  br_begun e = begun 0x0c refl (common_there code Br e)
-
-  pub br_if_begun : BrIf ≡ get_or kinds code Rare → (bytes ≡ 0x0d ∷ rest) × (from 0 forms 0x0d ≡ Some OfIndex)
-  unfolding is_common forms
-  br_if_begun e = begun 0x0d refl (common_there code BrIf e)
-
-  pub call_begun : Call ≡ get_or kinds code Rare → (bytes ≡ 0x10 ∷ rest) × (from 0 forms 0x10 ≡ Some OfIndex)
-  unfolding is_common forms
-  call_begun e = begun 0x10 refl (common_there code Call e)
-
-  pub global_get_begun : GlobalGet ≡ get_or kinds code Rare → (bytes ≡ 0x23 ∷ rest) × (from 0 forms 0x23 ≡ Some OfIndex)
-  unfolding is_common forms
-  global_get_begun e = begun 0x23 refl (common_there code GlobalGet e)
-
-  pub global_set_begun : GlobalSet ≡ get_or kinds code Rare → (bytes ≡ 0x24 ∷ rest) × (from 0 forms 0x24 ≡ Some OfIndex)
-  unfolding is_common forms
-  global_set_begun e = begun 0x24 refl (common_there code GlobalSet e)
+  pub indexed_begun : Indexed ≡ get_or kinds code Rare → from 0 forms code ≡ Some OfIndex
+  unfolding is_common
+  indexed_begun e = indexed_form _ (common_there code Indexed e)
 
   constant_of : (c : ℕ) (make : ℤ → NumericOp) (bits : ℕ) (zero_is : ℤ) (left : List ℕ) → nat_eq code c ≡ true → ((types : CanonicalTypes) (bs : List ℕ) → operator types (c ∷ bs) ≡ (signed bits bs >>= (λ (n : ℤ × List ℕ). Some (Numeric (make n.0), n.1)))) → ((n : ℤ) (cx : Context) → row_of cx (Numeric (make n)) ≡ row_of cx (Numeric (make zero_is))) → (n : ℤ) × (signed bits rest ≡ Some (n, left)) → BeginLike bytes (Numeric (make zero_is)) left
   constant_of c make bits zero_is left e read same n = moved (Numeric (make zero_is)) left (subst (λ k. BeginLike (k ∷ rest) (Numeric (make zero_is)) left) (sym (eqb-true code c e)) (record {

@@ -13,7 +13,7 @@ use Rattle.validate_visit.specs.declared.op.Op.TheVariants.{Memory}
 use Rattle.validation_rules.specs.Context.{Context}
 use Rattle.validation_rules.specs.Operators.{operator as row_of}
 use Rattle.module_check.specs.declared.first_bytes.Common.{Common}
-use Rattle.module_check.specs.declared.first_bytes.Common.TheVariants.{Rare, Nop, Block, Loop, If, End, Br, BrIf, Return, Call, Drop, Select, LocalGet, LocalSet, LocalTee, GlobalGet, GlobalSet, Constant32, Constant64, Test32, Compare32, Compare64, Binary32, Binary64, BinaryF32, BinaryF64, Load32, Load64, LoadF32, LoadF64, Store32, Store64, StoreF32, StoreF64}
+use Rattle.module_check.specs.declared.first_bytes.Common.TheVariants.{Rare, Nop, Block, Loop, If, End, Indexed, Return, Drop, Select, LocalGet, LocalSet, LocalTee, Constant32, Constant64, Test32, Compare32, Compare64, Binary32, Binary64, BinaryF32, BinaryF64, Load32, Load64, LoadF32, LoadF64, Store32, Store64, StoreF32, StoreF64}
 
 -- The kinds of all bytes below an end. A row has the kind of the bytes from its own on, up to that of the next row.
 abbrev pub kinds_end : ℕ → List (ℕ × Common) → ℕ
@@ -28,9 +28,9 @@ kinds_below end (row ∷ rows) = replicate (kinds_end end rows - row.0) row.1 ++
 unfoldable pub kinds : List Common
 kinds = kinds_below 0x100
     ((0x00, Rare) ∷ (0x01, Nop) ∷ (0x02, Block) ∷ (0x03, Loop) ∷ (0x04, If) ∷ (0x05, Rare) ∷ (0x0b, End)
-    ∷ (0x0c, Br) ∷ (0x0d, BrIf) ∷ (0x0e, Rare) ∷ (0x0f, Return) ∷ (0x10, Call) ∷ (0x11, Rare) ∷ (0x1a, Drop)
+    ∷ (0x0c, Indexed) ∷ (0x0e, Rare) ∷ (0x0f, Return) ∷ (0x10, Indexed) ∷ (0x11, Rare) ∷ (0x1a, Drop)
     ∷ (0x1b, Select) ∷ (0x1c, Rare) ∷ (0x20, LocalGet) ∷ (0x21, LocalSet) ∷ (0x22, LocalTee)
-    ∷ (0x23, GlobalGet) ∷ (0x24, GlobalSet) ∷ (0x25, Rare)
+    ∷ (0x23, Indexed) ∷ (0x25, Rare)
     ∷ (0x28, Load32 2) ∷ (0x29, Load64 3) ∷ (0x2a, LoadF32 2) ∷ (0x2b, LoadF64 3)
     ∷ (0x2c, Load32 0) ∷ (0x2e, Load32 1) ∷ (0x30, Load64 0) ∷ (0x32, Load64 1) ∷ (0x34, Load64 2)
     ∷ (0x36, Store32 2) ∷ (0x37, Store64 3) ∷ (0x38, StoreF32 2) ∷ (0x39, StoreF64 3)

@@ -18,10 +18,9 @@ ghost use Rattle.module_check.specs.Turns.{Passes, Turns};
 ghost use Rattle.module_check.specs.FirstBytes.{BeginAs, BeginLike, BeginAccess, EndsNear, IsNear};
 
 use crate::first_bytes::Common::{
-    Binary32, Binary64, BinaryF32, BinaryF64, Block, Br, BrIf, Call, Compare32, Compare64,
-    Constant32, Constant64, Drop, End, GlobalGet, GlobalSet, If, Load32, Load64, LoadF32, LoadF64,
-    LocalGet, LocalSet, LocalTee, Loop, Nop, Rare, Return, Select, Store32, Store64, StoreF32,
-    StoreF64, Test32,
+    Binary32, Binary64, BinaryF32, BinaryF64, Block, Compare32, Compare64, Constant32, Constant64,
+    Drop, End, If, Indexed, Load32, Load64, LoadF32, LoadF64, LocalGet, LocalSet, LocalTee, Loop,
+    Nop, Rare, Return, Select, Store32, Store64, StoreF32, StoreF64, Test32,
 };
 use crate::first_bytes::common_of;
 use crate::indexed::indexed;
@@ -395,7 +394,7 @@ fn comparison(ty: IntegerType) -> Op<'static>
     Op::Numeric(NumericOp::IntegerComparison(ty, IntegerComparisonOp::Eq))
 }
 
-/// The turn of the next operator, if it is a common one.
+/// The fast lane of [`crate::operators::is_any_accepted`] for common operators: the turn of the next one.
 #[inline(always)]
 #[tactic(auto, using(crate::proofs::Turned::not_passed))]
 pub(crate) fn common_turn<R: WasmModuleResources>(
@@ -429,14 +428,10 @@ pub(crate) fn common_turn<R: WasmModuleResources>(
         BinaryF64 => turn_of_bytes(v, resources, reader, 1, float_binary(FloatType::F64)),
         Constant32 => turn_of_constant(v, resources, reader, next, NumericOp::I32Const(0)),
         Constant64 => turn_of_constant(v, resources, reader, next, NumericOp::I64Const(0)),
-        Br => turn_of_index(v, resources, reader, 0x0c, next),
-        BrIf => turn_of_index(v, resources, reader, 0x0d, next),
-        Call => turn_of_index(v, resources, reader, 0x10, next),
+        Indexed => turn_of_index(v, resources, reader, code, next),
         LocalGet => turn_with(v, resources, reader, is_index, ControlOp::LocalGet(index)),
         LocalSet => turn_with(v, resources, reader, is_index, ControlOp::LocalSet(index)),
         LocalTee => turn_with(v, resources, reader, is_index, ControlOp::LocalTee(index)),
-        GlobalGet => turn_of_index(v, resources, reader, 0x23, next),
-        GlobalSet => turn_of_index(v, resources, reader, 0x24, next),
         Block => turn_with(v, resources, reader, is_empty, ControlOp::Block(Empty)),
         Loop => turn_with(v, resources, reader, is_empty, ControlOp::Loop(Empty)),
         If => turn_with(v, resources, reader, is_empty, ControlOp::If(Empty)),

@@ -5,10 +5,9 @@ ghost use Rattle.module_check.specs.FirstBytes.{kinds};
 ghost use Rattle.module_check.specs.declared.first_bytes.Common.TheVariants.{Rare};
 
 use crate::first_bytes::Common::{
-    Binary32, Binary64, BinaryF32, BinaryF64, Block, Br, BrIf, Call, Compare32, Compare64,
-    Constant32, Constant64, Drop, End, GlobalGet, GlobalSet, If, Load32, Load64, LoadF32, LoadF64,
-    LocalGet, LocalSet, LocalTee, Loop, Nop, Rare, Return, Select, Store32, Store64, StoreF32,
-    StoreF64, Test32,
+    Binary32, Binary64, BinaryF32, BinaryF64, Block, Compare32, Compare64, Constant32, Constant64,
+    Drop, End, If, Indexed, Load32, Load64, LoadF32, LoadF64, LocalGet, LocalSet, LocalTee, Loop,
+    Nop, Rare, Return, Select, Store32, Store64, StoreF32, StoreF64, Test32,
 };
 
 /// An operator, as far as its first byte tells it.
@@ -26,14 +25,10 @@ pub(crate) enum Common {
     If,
     /// `end`
     End,
-    /// `br`
-    Br,
-    /// `br_if`
-    BrIf,
+    /// An operator on control or variables with an index, but for those on locals.
+    Indexed,
     /// `return`
     Return,
-    /// `call`
-    Call,
     /// `drop`
     Drop,
     /// `select` without a type.
@@ -44,10 +39,6 @@ pub(crate) enum Common {
     LocalSet,
     /// `local.tee`
     LocalTee,
-    /// `global.get`
-    GlobalGet,
-    /// `global.set`
-    GlobalSet,
     /// `i32.const`
     Constant32,
     /// `i64.const`
@@ -99,12 +90,12 @@ static COMMON: [Common; 256] = [
     Rare,
     Rare,
     End,
-    Br,
-    BrIf,
+    Indexed,
+    Indexed,
     Rare,
     Return,
     // from 0x10 on
-    Call,
+    Indexed,
     Rare,
     Rare,
     Rare,
@@ -124,8 +115,8 @@ static COMMON: [Common; 256] = [
     LocalGet,
     LocalSet,
     LocalTee,
-    GlobalGet,
-    GlobalSet,
+    Indexed,
+    Indexed,
     Rare,
     Rare,
     Rare,

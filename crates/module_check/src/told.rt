@@ -17,7 +17,7 @@ use validate_operators::OperatorValidator;
 use validate_resources::WasmModuleResources;
 use validate_visit::{Ieee32, Ieee64, NumericOp, Op};
 
-/// [`passes`] of an operator on control or variables of this code, behind which the rest is left.
+/// [`passes`] of an operator on control or variables of this code; the rest is what is left behind the code.
 #[inline(never)]
 #[tactic(auto, using(crate::proofs::Turned::unchanged))]
 fn passes_indexed<'a, R: WasmModuleResources>(
@@ -41,7 +41,7 @@ fn passes_indexed<'a, R: WasmModuleResources>(
     }
 }
 
-/// [`passes`] of a load or a store of this code, behind which the rest is left.
+/// [`passes`] of a load or a store of this code; the rest is what is left behind the code.
 #[inline(never)]
 #[tactic(auto, using(crate::proofs::Turned::unchanged))]
 fn passes_access<'a, R: WasmModuleResources>(
@@ -65,7 +65,7 @@ fn passes_access<'a, R: WasmModuleResources>(
     }
 }
 
-/// [`passes`] of an operator on numbers of one type of this code, behind which the rest is left.
+/// [`passes`] of an operator on numbers of one type of this code; the rest is what is left behind the code.
 #[inline(never)]
 #[tactic(auto, using(crate::proofs::Turned::unchanged))]
 fn passes_numeric<'a, R: WasmModuleResources>(
@@ -86,7 +86,7 @@ fn passes_numeric<'a, R: WasmModuleResources>(
     }
 }
 
-/// [`passes`] of a conversion of this code, behind which the rest is left.
+/// [`passes`] of a conversion of this code; the rest is what is left behind the code.
 #[inline(never)]
 #[tactic(auto, using(crate::proofs::Turned::unchanged))]
 fn passes_conversion<'a, R: WasmModuleResources>(
@@ -107,7 +107,7 @@ fn passes_conversion<'a, R: WasmModuleResources>(
     }
 }
 
-/// [`passes`] of an `i32.const` of this code, behind which the rest is left.
+/// [`passes`] of an `i32.const` of this code; the rest is what is left behind the code.
 #[inline(never)]
 #[tactic(auto, using(crate::proofs::Turned::unchanged))]
 fn passes_i32<'a, R: WasmModuleResources>(
@@ -134,7 +134,7 @@ fn passes_i32<'a, R: WasmModuleResources>(
     )
 }
 
-/// [`passes`] of an `i64.const` of this code, behind which the rest is left.
+/// [`passes`] of an `i64.const` of this code; the rest is what is left behind the code.
 #[inline(never)]
 #[tactic(auto, using(crate::proofs::Turned::unchanged))]
 fn passes_i64<'a, R: WasmModuleResources>(
@@ -161,7 +161,7 @@ fn passes_i64<'a, R: WasmModuleResources>(
     )
 }
 
-/// [`passes`] of an `f32.const` of this code, behind which the rest is left.
+/// [`passes`] of an `f32.const` of this code; the rest is what is left behind the code.
 #[inline(never)]
 #[tactic(auto, using(crate::proofs::Turned::unchanged))]
 fn passes_f32<'a, R: WasmModuleResources>(
@@ -188,7 +188,7 @@ fn passes_f32<'a, R: WasmModuleResources>(
     )
 }
 
-/// [`passes`] of an `f64.const` of this code, behind which the rest is left.
+/// [`passes`] of an `f64.const` of this code; the rest is what is left behind the code.
 #[inline(never)]
 #[tactic(auto, using(crate::proofs::Turned::unchanged))]
 fn passes_f64<'a, R: WasmModuleResources>(
@@ -215,8 +215,9 @@ fn passes_f64<'a, R: WasmModuleResources>(
     )
 }
 
-/// Whether the next operator passes at once, where its first byte tells how it is read. Then it is read; otherwise nothing
-/// is changed. It is asked behind [`crate::common::common_turn`], and lent a reader that lies in memory.
+/// The fast lane of [`crate::operators::is_any_accepted`], behind [`crate::common::common_turn`]: whether the next operator
+/// passes at once, where its first byte tells how it is read. Then it is read; otherwise nothing is changed. It is lent a
+/// reader that lies in memory.
 #[inline(always)]
 #[tactic(auto, using(crate::proofs::Turned::unchanged))]
 pub(crate) fn passes_told<'a, R: WasmModuleResources>(

@@ -182,19 +182,19 @@ impl Verdict {
         }
     }
 
-    /// The verdict of a refusal: `Refused`, unless memory ran out.
-    pub fn of_error(refusal: Error) -> Verdict
+    /// The verdict on an error of the validator: `Refused`, unless memory ran out.
+    pub fn of_error(error: Error) -> Verdict
         ensures not_accepted { result ≢ Accepted }
-        ensures refused { (e : Error) → result ≡ Refused e → refusal.wants_memory ≡ false }
-        ensures memory { result ≢ OutOfMemory → refusal.wants_memory ≡ false }
-        ensures offset { result ≢ OutOfMemory → refusal.offset ≡ verdict_offset result }
+        ensures refused { (e : Error) → result ≡ Refused e → error.wants_memory ≡ false }
+        ensures memory { result ≢ OutOfMemory → error.wants_memory ≡ false }
+        ensures offset { result ≢ OutOfMemory → error.offset ≡ verdict_offset result }
         ensures covered { (offset : ℕ) → result ≢ NotCovered offset }
         ensures malformed { (e : Error) → result ≢ Malformed e }
     {
-        if refusal.is_out_of_memory() {
+        if error.is_out_of_memory() {
             Verdict::OutOfMemory
         } else {
-            Verdict::Refused(refusal)
+            Verdict::Refused(error)
         }
     }
 

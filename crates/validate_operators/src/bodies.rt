@@ -301,7 +301,7 @@ pub(crate) fn gated_struct<A: Refused, R: WasmModuleResources>(
     struct_operator(context, op)
 }
 
-/// An operator on arrays.
+/// An operator on arrays, which all have one gate.
 #[inline(never)]
 pub(crate) fn gated_array<A: Refused, R: WasmModuleResources>(
     context: OperatorContext<'_, '_, R>,

@@ -1,10 +1,8 @@
 -- The function in the handle is that of the body.
 use Rattle.std.proofs.Common.{subst}
 use Rattle.validate_operators.specs.Validator.{state}
-use Rattle.validate_stacks.specs.State.{IsStarting}
 use Rattle.c_api.specs.Bodies.{StartsBody}
 use Rattle.c_api.specs.Calls.{OnWhole}
-use Rattle.c_api.specs.Modules.{context_in}
 use Rattle.c_api.proofs.Begun.{place_begun}
 use Rattle.c_api.proofs.body_calls.begin_shared.Goals as goal
 

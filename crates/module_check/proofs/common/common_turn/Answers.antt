@@ -4,7 +4,7 @@ use Rattle.binary_operators.specs.Unread.{Unread}
 use Rattle.validate_visit.specs.declared.op.ControlOp.TheVariants.{End}
 use Rattle.validate_visit.specs.declared.op.Op.TheVariants.{Control}
 use Rattle.module_check.specs.FirstBytes.{BeginAs, BeginLike}
-use Rattle.module_check.proofs.FirstBytes.{has_one, has_two, two_of, of_one, of_both, nop_like, end_like, return_like, drop_like, select_like, test32_like, compare32_like, compare64_like, binary32_like, binary64_like, binary_f32_like, binary_f64_like, constant32_near, constant64_near, br_begun, br_if_begun, call_begun, local_get_like, local_set_like, local_tee_like, global_get_begun, global_set_begun, block_like, loop_like, if_like, load32_like, load64_like, load_f32_like, load_f64_like, store32_like, store64_like, store_f32_like, store_f64_like}
+use Rattle.module_check.proofs.FirstBytes.{has_one, has_two, two_of, of_one, of_both, nop_like, end_like, return_like, drop_like, select_like, test32_like, compare32_like, compare64_like, binary32_like, binary64_like, binary_f32_like, binary_f64_like, constant32_near, constant64_near, indexed_begun, local_get_like, local_set_like, local_tee_like, block_like, loop_like, if_like, load32_like, load64_like, load_f32_like, load_f64_like, store32_like, store64_like, store_f32_like, store_f64_like}
 use Rattle.module_check.proofs.common.common_turn.Goals as goal
 
 pub turn_of_bytes-requires-clause-like : goal.turn_of_bytes-requires-clause-like
@@ -59,49 +59,13 @@ pub turn_of_constant-requires-in-Constant64-clause-like : goal.turn_of_constant-
 turn_of_constant-requires-in-Constant64-clause-like g c = λ behind ends. constant64_near (two_of c.in-Some.ensures.next) c.in-Constant64.ensures behind ends
 
 pub turn_of_index-requires-clause-begins : goal.turn_of_index-requires-clause-begins
-turn_of_index-requires-clause-begins g c = (br_begun (two_of c.in-Some.ensures.next) c.in-Br.ensures).0
+turn_of_index-requires-clause-begins g c = (two_of c.in-Some.ensures.next).begins
 
 pub turn_of_index-requires-clause-form : goal.turn_of_index-requires-clause-form
-turn_of_index-requires-clause-form g c = (br_begun (two_of c.in-Some.ensures.next) c.in-Br.ensures).1
+turn_of_index-requires-clause-form g c = indexed_begun (two_of c.in-Some.ensures.next) c.in-Indexed.ensures
 
 pub turn_of_index-requires-clause-next : goal.turn_of_index-requires-clause-next
 turn_of_index-requires-clause-next g c = (two_of c.in-Some.ensures.next).goes_on
-
-pub turn_of_index-requires-in-BrIf-clause-begins : goal.turn_of_index-requires-in-BrIf-clause-begins
-turn_of_index-requires-in-BrIf-clause-begins g c = (br_if_begun (two_of c.in-Some.ensures.next) c.in-BrIf.ensures).0
-
-pub turn_of_index-requires-in-BrIf-clause-form : goal.turn_of_index-requires-in-BrIf-clause-form
-turn_of_index-requires-in-BrIf-clause-form g c = (br_if_begun (two_of c.in-Some.ensures.next) c.in-BrIf.ensures).1
-
-pub turn_of_index-requires-in-BrIf-clause-next : goal.turn_of_index-requires-in-BrIf-clause-next
-turn_of_index-requires-in-BrIf-clause-next g c = (two_of c.in-Some.ensures.next).goes_on
-
-pub turn_of_index-requires-in-Call-clause-begins : goal.turn_of_index-requires-in-Call-clause-begins
-turn_of_index-requires-in-Call-clause-begins g c = (call_begun (two_of c.in-Some.ensures.next) c.in-Call.ensures).0
-
-pub turn_of_index-requires-in-Call-clause-form : goal.turn_of_index-requires-in-Call-clause-form
-turn_of_index-requires-in-Call-clause-form g c = (call_begun (two_of c.in-Some.ensures.next) c.in-Call.ensures).1
-
-pub turn_of_index-requires-in-Call-clause-next : goal.turn_of_index-requires-in-Call-clause-next
-turn_of_index-requires-in-Call-clause-next g c = (two_of c.in-Some.ensures.next).goes_on
-
-pub turn_of_index-requires-in-GlobalGet-clause-begins : goal.turn_of_index-requires-in-GlobalGet-clause-begins
-turn_of_index-requires-in-GlobalGet-clause-begins g c = (global_get_begun (two_of c.in-Some.ensures.next) c.in-GlobalGet.ensures).0
-
-pub turn_of_index-requires-in-GlobalGet-clause-form : goal.turn_of_index-requires-in-GlobalGet-clause-form
-turn_of_index-requires-in-GlobalGet-clause-form g c = (global_get_begun (two_of c.in-Some.ensures.next) c.in-GlobalGet.ensures).1
-
-pub turn_of_index-requires-in-GlobalGet-clause-next : goal.turn_of_index-requires-in-GlobalGet-clause-next
-turn_of_index-requires-in-GlobalGet-clause-next g c = (two_of c.in-Some.ensures.next).goes_on
-
-pub turn_of_index-requires-in-GlobalSet-clause-begins : goal.turn_of_index-requires-in-GlobalSet-clause-begins
-turn_of_index-requires-in-GlobalSet-clause-begins g c = (global_set_begun (two_of c.in-Some.ensures.next) c.in-GlobalSet.ensures).0
-
-pub turn_of_index-requires-in-GlobalSet-clause-form : goal.turn_of_index-requires-in-GlobalSet-clause-form
-turn_of_index-requires-in-GlobalSet-clause-form g c = (global_set_begun (two_of c.in-Some.ensures.next) c.in-GlobalSet.ensures).1
-
-pub turn_of_index-requires-in-GlobalSet-clause-next : goal.turn_of_index-requires-in-GlobalSet-clause-next
-turn_of_index-requires-in-GlobalSet-clause-next g c = (two_of c.in-Some.ensures.next).goes_on
 
 pub turn_with-requires-clause-like : goal.turn_with-requires-clause-like
 turn_with-requires-clause-like g c = λ short. of_both refl c.in-Some.ensures.next (λ two. local_get_like two c.in-LocalGet.ensures c.from-index.ensures short)
